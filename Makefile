@@ -28,16 +28,12 @@ bin/coap-server bin/coap-client &: $(SOURCES)
 bin/coap-explain bin/coap-directory &: $(SOURCES)
 	tests/build program_explain program_directory
 
-# Proves the C library and builds its archive and its pkg-config file.
-lib: bin/libdachreup.a bin/dachreup.pc
+# Proves the C library and builds its archive.
+lib: bin/libdachreup.a
 
 bin/libdachreup.a: $(SOURCES) install/library/build install/library/allocator.c
 	tests/build c_api
 	install/library/build crates/c_api/out/libc_api.a bin
-
-bin/dachreup.pc: install/library/dachreup.pc.in VERSION
-	@mkdir -p bin
-	sed -e 's|@PREFIX@|$(PREFIX)|g' -e 's|@LIBDIR@|lib|g' -e "s|@VERSION@|$$(cat VERSION)|g" $< > $@
 
 # Builds the gateway to MQTT: C over the library and libmosquitto. The C is tested, not proved.
 gateway: bin/coap-mqtt

@@ -8,12 +8,13 @@ at most 1,000 bytes each.
 
 import contextlib
 import socket
-import subprocess
 import tempfile
 import time
 
 from counting import callgrind, collected, counted_alone
 from servers import HOST, ROOT, Server
+from commands import preloaded  # in the path that servers.py extends
+from peers import processor_time
 
 # A queue of 4 MiB, and the size of a stored representation.
 QUEUE, SIZE = 4_194_304, 60_000
@@ -62,11 +63,6 @@ def at_rest(process):
         time.sleep(1)
 
 
-def processor_time(process):
-    with open(f"/proc/{process.pid}/stat", encoding="ascii") as line:
-        return line.read().rpartition(")")[2].split()[11:13]
-
-
 def received(peer, count):
     """Reads `count` bytes, and returns true if all arrived."""
     while count and (piece := peer.recv(min(count, 65_536))):
@@ -105,9 +101,7 @@ def over_socket():
     """Prints the costs over a socket. Returns the additional instructions a byte with sends of 1,000 bytes, or None
     without a figure."""
     with tempfile.TemporaryDirectory() as room:
-        shim = f"{room}/short.so"
-        words = ["cc", "-std=c11", "-O2", "-Wall", "-Wextra", "-Werror", "-shared", "-fPIC"]
-        subprocess.run([*words, "-o", shim, f"{ROOT}/bench/short.c"], check=True)
+        shim = preloaded("short", room, f"{ROOT}/bench")
         (whole, count), (short, same) = drained(room, ""), drained(room, shim)
     if not count or count != same or None in (whole, short):
         return None

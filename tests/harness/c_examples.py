@@ -3,26 +3,16 @@
 import contextlib
 import os
 import re
-import socket
 import subprocess
-import time
 from concurrent.futures import ThreadPoolExecutor
 
-from peers import free_port, started
+from peers import accepts, free_port, soon, started
 
 LIMIT = 300
 
 
 def run(words, given=b"", **environment):
     return subprocess.run(words, input=given, capture_output=True, timeout=LIMIT, env={**os.environ, **environment})
-
-
-def wait_for(port):
-    """Waits until an example, which prints no line, accepts connections at a port."""
-    for _ in range(10 * LIMIT):
-        with contextlib.suppress(OSError), socket.create_connection(("127.0.0.1", port)):
-            break
-        time.sleep(0.1)
 
 
 # libcoap's client, which ends after these seconds without a response.
@@ -38,7 +28,7 @@ def use_example(words, client):
         def begin(*command):
             return stack.enter_context(started(command, stdout=subprocess.PIPE, stderr=subprocess.STDOUT))
         running = begin(*words, str(port), "20")
-        wait_for(port)
+        soon(lambda: accepts(port), seconds=LIMIT)
         observers = [begin(*one, "-w", "-s", "3", f"{address}/{path}")
                      for one, path in (([client], "inside"), ([client], "outside"), (LIBCOAP, "inside"))]
         for one in observers:

@@ -41,6 +41,11 @@ class Checks:
         """Notes a check that this machine cannot make, with the reason. The gate repeats these at its end."""
         print("%s%s" % (SKIPPED, why), flush=True)
 
+    def end(self, name=""):
+        """Prints the counts, and returns the exit status of the script."""
+        print(f"{name}: " * bool(name) + f"{self.passed} passed, {self.failed} failed")
+        return int(self.failed > 0)
+
     def add(self, other):
         self.passed, self.failed = self.passed + other.passed, self.failed + other.failed
 

@@ -1,7 +1,9 @@
-"""Runs of commands that end by themselves, and files of text."""
+"""Runs of commands that end by themselves, libraries that tests preload, and files of text."""
 
 import os
 import subprocess
+
+HARNESS = os.path.dirname(os.path.abspath(__file__))
 
 # Timeout of each command in seconds.
 LIMIT = 300
@@ -12,6 +14,14 @@ def run(words, **how):
     done = subprocess.run(words, stdin=subprocess.DEVNULL, stdout=subprocess.PIPE, stderr=subprocess.STDOUT,
                           timeout=LIMIT, **how)
     return done.returncode, done.stdout.decode(errors="replace")
+
+
+def preloaded(name, folder, home=HARNESS):
+    """Compiles a library that a test preloads, and returns its path in a folder."""
+    library = f"{folder}/{name}.so"
+    words = ["gcc", "-O2", "-Wall", "-Wextra", "-Werror", "-shared", "-fPIC"]
+    subprocess.run([*words, "-o", library, f"{home}/{name}.c"], check=True)
+    return library
 
 
 def read(*parts):

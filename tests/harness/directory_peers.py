@@ -3,6 +3,7 @@
 import re
 
 import messages
+from message_syntax import requested, uint
 from peers import LIMIT
 
 # Codes and options of CoAP that the peers use.
@@ -10,7 +11,7 @@ GET, POST, PUT, DELETE = 1, 2, 3, 4
 CREATED, DELETED, CHANGED, CONTENT = 0x41, 0x42, 0x44, 0x45
 BAD_REQUEST, BAD_OPTION, NOT_FOUND, NOT_ALLOWED = 0x80, 0x82, 0x84, 0x85
 NOT_ACCEPTABLE, FAILED, UNSUPPORTED, UNAVAILABLE = 0x86, 0x8C, 0x8F, 0xA3
-IF_MATCH, LOCATION_PATH, URI_PATH, CONTENT_FORMAT, URI_QUERY, ACCEPT = 1, 8, 11, 12, 15, 17
+IF_MATCH, LOCATION_PATH, CONTENT_FORMAT, URI_QUERY, ACCEPT = 1, 8, 12, 15, 17
 
 LINK_FORMAT = 40
 
@@ -23,42 +24,12 @@ SENSORS = (b'</sensors/temp>;rt=temperature-c;if=sensor,'
            b'<http://www.example.com/sensors/temp>;anchor="/sensors/temp";rel=describedby')
 
 
-def option(delta, value):
-    """Returns the encoding of an option (RFC 7252 section 3.1)."""
-    head, tail = [], b""
-    for number in (delta, len(value)):
-        if number < 13:
-            head.append(number)
-        elif number < 269:
-            head.append(13)
-            tail += bytes([number - 13])
-        else:
-            head.append(14)
-            tail += (number - 269).to_bytes(2, "big")
-    return bytes([head[0] << 4 | head[1]]) + tail + value
-
-
-def uint(number):
-    return number.to_bytes((number.bit_length() + 7) // 8, "big")
-
-
 def request(code, token, path, queries=(), payload=b"", content_format=None, more=()):
-    """Returns the encoding of a request or a CSM (RFC 8323 section 3.2), with a token of up to 64 bytes (RFC 8974)."""
-    options = [(URI_PATH, it.encode()) for it in path] + [(URI_QUERY, it.encode()) for it in queries] + list(more)
+    """Returns the encoding of a request or a CSM. The path has its segments."""
+    options = [(URI_QUERY, it.encode()) for it in queries] + list(more)
     if content_format is not None:
         options.append((CONTENT_FORMAT, uint(content_format)))
-    body, last = b"", 0
-    for number, value in sorted(options, key=lambda it: it[0]):
-        body, last = body + option(number - last, value), number
-    body += b"\xff" + payload if payload else b""
-    nibble, length = (len(token), b"") if len(token) < 13 else (13, bytes([len(token) - 13]))
-    if len(body) < 13:
-        head = bytes([len(body) << 4 | nibble])
-    elif len(body) < 269:
-        head = bytes([13 << 4 | nibble, len(body) - 13])
-    else:
-        head = bytes([14 << 4 | nibble]) + (len(body) - 269).to_bytes(2, "big")
-    return head + bytes([code]) + length + token + body
+    return requested(code, token, path, options, payload)
 
 
 class Peer:

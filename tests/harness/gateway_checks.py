@@ -2,17 +2,14 @@
 
 import collections
 import concurrent.futures
-import contextlib
 import os
 import random
-import socket
 import subprocess
 import time
 
 from checks import Checks, part_of
 from gateways import CONTENT, FAULTS, GET, LIMIT, PREFIX
-from packages import install
-from peers import LOCAL
+from packages import require
 from workspace import ROOT
 
 PACKAGES = {
@@ -46,13 +43,6 @@ def write_file(path, text, mode=0o644):
     with open(path, "w", encoding="utf-8") as file:
         file.write(text)
     os.chmod(path, mode)
-
-
-def accepts(port):
-    """Returns true if a program accepts connections at the port."""
-    with contextlib.suppress(ConnectionRefusedError), socket.create_connection((LOCAL, port), LIMIT):
-        return True
-    return False
 
 
 def state_of(peer, names):
@@ -89,9 +79,7 @@ def made_at_once(checks, program):
 def main(listed, words):
     """Runs the checks of a list, or those that the command line names. Those of a list in the list run at once. Returns
     the exit status."""
-    if not install(PACKAGES):
-        print("the packages %s cannot be installed\n0 passed, 1 failed" % ", ".join(PACKAGES.values()))
-        return 1
+    require(PACKAGES)
     # The archive is not built again, since that would prove all libraries anew after `rt ci`.
     make = ["make", "-C", ROOT, "--silent", "-o", "bin/libdachreup.a", "bin/coap-mqtt"]
     if words in ([], ["--build"]) and subprocess.run(make).returncode:
@@ -107,5 +95,4 @@ def main(listed, words):
     for checks in chosen:
         named = [it for it in checks if not names or it.__name__ in names]
         total.add(made_at_once(named, program) if named else Checks())
-    print("%d passed, %d failed" % (total.passed, total.failed))
-    return 1 if total.failed else 0
+    return total.end()

@@ -12,8 +12,10 @@ import threading
 import time
 
 import messages
+import proxies
 from checks import CSM
-from peers import LOCAL, free_port, started
+from message_syntax import requested, uint
+from peers import LOCAL, accepts, free_port, soon, started
 from workspace import ROOT
 
 CONFIGURATION = os.path.join(ROOT, "install", "mosquitto.conf")
@@ -34,26 +36,10 @@ USER, PASSWORD, PREFIX = "gateways", "a password", "shared"
 # The broker refuses publications on the first topic. The second one is not shared.
 DENIED, END = f"{PREFIX}/denied", "end"
 
-def number(value):
-    return value.to_bytes((value.bit_length() + 7) // 8, "big")
-
-
-def extended(value):
-    """Returns the nibble of a number, and its extension."""
-    if value < 13:
-        return value, b""
-    return (13, bytes([value - 13])) if value < 269 else (14, (value - 269).to_bytes(2, "big"))
-
 
 def encode(code, token, options=(), payload=b""):
     """Returns a message. `options` are pairs of number and value."""
-    body, last = b"", 0
-    for option, value in sorted(options, key=lambda it: it[0]):
-        (high, first), (low, second) = extended(option - last), extended(len(value))
-        body, last = body + bytes([high << 4 | low]) + first + second + value, option
-    body += b"\xff" + payload if payload else b""
-    nibble, extension = extended(len(body)) if len(body) < 65805 else (15, (len(body) - 65805).to_bytes(4, "big"))
-    return bytes([nibble << 4 | len(token)]) + extension + bytes([code]) + token + body
+    return requested(code, token, [], options, payload)
 
 
 Response = collections.namedtuple("Response", ["code", "payload", "options"])
@@ -83,7 +69,7 @@ class Peer:
         token = self.token.to_bytes(4, "big")
         segments = path.split("/") if isinstance(path, str) else path
         options = [*options, *((URI_PATH, it.encode() if isinstance(it, str) else it) for it in segments)]
-        options += [(FORMAT, number(form))] if form is not None else []
+        options += [(FORMAT, uint(form))] if form is not None else []
         self.socket.sendall(encode(code, token, options, payload))
         return token
 
@@ -209,14 +195,8 @@ class Broker(Watched):
         self.configure()
         with open(f"{self.folder}/mosquitto.log", "ab") as log:
             self.begin(["mosquitto", "-c", f"{self.folder}/mosquitto.conf"], stdout=log, stderr=log)
-        ends = time.monotonic() + LIMIT
-        while time.monotonic() < ends:
-            with contextlib.suppress(OSError):
-                socket.create_connection((LOCAL, self.port), 1).close()
-                if self.process.poll() is None:
-                    return
-            time.sleep(0.02)
-        raise OSError("the broker does not listen: %s" % self.log())
+        if not soon(lambda: accepts(self.port)) or self.process.poll() is not None:
+            raise OSError("the broker does not listen: %s" % self.log())
 
     def log(self):
         with open(f"{self.folder}/mosquitto.log", encoding="utf-8", errors="replace") as log:
@@ -322,6 +302,39 @@ class Gateway(Watched):
         return Peer(self.port)
 
 
+class GatewayFront(proxies.Front):
+    """HAProxy with TLS in front of two gateways."""
+
+    def __init__(self, program, broker, folder):
+        super().__init__(program, folder, ("one", "two"), [], proxies.QUICK_CHECKS)
+        self.broker = broker
+
+    def gateway(self, name, broker):
+        """Returns the gateway with this name, which is not started."""
+        made = Gateway(self.server, broker, self.folder, list(self.ports).index(name) + 1)
+        made.port = self.ports[name]
+        return made
+
+    def reach(self, source):
+        """Returns a peer with this address, after its TLS handshake."""
+        return Peer(self.port, source, proxies.context(self.folder, proxies.Kind(source)))
+
+    def gateway_of(self, source):
+        """Returns the id of the gateway that serves a peer with this address: the first bytes of its ETags."""
+        with contextlib.suppress(OSError), self.reach(source) as peer:
+            return int.from_bytes(option_of(peer.ask(GET, f"{PREFIX}/probe"), ETAG), "big") >> 48
+        return None
+
+    def sources(self):
+        """Returns an address of peers for each gateway, by its id."""
+        found = {}
+        for source in ("127.0.0.%d" % at for at in range(10, 200)):
+            found.setdefault(self.gateway_of(source), source)
+            if {1, 2} <= found.keys():
+                break
+        return found
+
+
 class Setting:
     """A broker and gateways with ids from 1 on."""
 
@@ -344,11 +357,3 @@ class Setting:
 
     def peers(self):
         return [self.stack.enter_context(it.peer()) for it in self.gateways]
-
-
-def soon(look, wanted, seconds=LIMIT):
-    """Returns the last result of a look, which is repeated until it is the wanted one, for at most these seconds."""
-    ends = time.monotonic() + seconds
-    while (found := look()) != wanted and time.monotonic() < ends:
-        time.sleep(0.01)
-    return found

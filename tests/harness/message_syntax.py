@@ -71,6 +71,13 @@ def encoded(code, token, options, payload):
     return bytes([head << 4 | token_head]) + more + bytes([code]) + after_code + token + body
 
 
+def requested(code, token, path, options=(), payload=b""):
+    """Returns a message whose options are in any order. The path is a text, or its segments."""
+    segments = [it for it in path.split("/") if it] if isinstance(path, str) else path
+    named = [(OPTIONS["uri-path"][0], it.encode()) for it in segments]
+    return encoded(code, token, sorted([*named, *options], key=lambda it: it[0]), payload)
+
+
 def code_of(word):
     """Returns the byte of a code in words."""
     if word in CODES:

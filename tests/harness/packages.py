@@ -39,6 +39,13 @@ def missing_of(packages):
     return [package for name, package in packages.items() if not exists(name)]
 
 
+def require(packages):
+    """Installs the missing programs and files. Ends the script, as one that failed, if one is missing afterwards."""
+    if not install(packages):
+        print(f"the packages {', '.join(missing_of(packages))} cannot be installed\n0 passed, 1 failed")
+        sys.exit(1)
+
+
 def install(packages):
     """Installs the missing programs and files, each from its package, and returns true if all exist afterwards."""
     if not missing_of(packages):

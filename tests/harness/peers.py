@@ -4,6 +4,7 @@ connections."""
 import contextlib
 import errno
 import os
+import re
 import resource
 import select
 import signal
@@ -67,6 +68,21 @@ def free_port(host=LOCAL, others=()):
                 raise
 
 
+def accepts(port, host=LOCAL):
+    """Returns true if a program accepts connections at a port."""
+    with contextlib.suppress(ConnectionError), socket.create_connection((host, port), LIMIT):
+        return True
+    return False
+
+
+def soon(look, wanted=True, seconds=2 * LIMIT):
+    """Returns the last result of a look, which is repeated until it is the wanted one, for at most these seconds."""
+    ends = time.monotonic() + seconds
+    while (found := look()) != wanted and time.monotonic() < ends:
+        time.sleep(0.01)
+    return found
+
+
 @contextlib.contextmanager
 def closed_port():
     """Yields a port of this machine at which no program listens, and none can."""
@@ -94,6 +110,12 @@ def processor_time(process):
     with open("/proc/%d/stat" % process.pid, encoding="ascii") as file:
         fields = file.read().rpartition(")")[2].split()
     return (int(fields[11]) + int(fields[12])) / os.sysconf("SC_CLK_TCK")
+
+
+def resident(process):
+    """Returns the resident memory of a process, in bytes."""
+    with open("/proc/%d/status" % process.pid, encoding="ascii") as file:
+        return int(re.search(r"VmRSS:\s+(\d+) kB", file.read())[1]) * 1024
 
 
 @contextlib.contextmanager
@@ -147,13 +169,8 @@ class Server:
 
     def accepts(self):
         """Waits until the server accepts connections, and returns true if it does. For servers that print no line."""
-        ends = time.monotonic() + LIMIT
-        while time.monotonic() < ends and self.process.poll() is None:
-            with contextlib.suppress(ConnectionRefusedError):
-                self.connect().close()
-                return True
-            time.sleep(0.01)
-        return False
+        soon(lambda: self.process.poll() is not None or accepts(self.port, self.host))
+        return self.process.poll() is None
 
     def uri(self, path="/"):
         return "coap+tcp://" + authority(self.host, self.port) + path

@@ -14,7 +14,7 @@ import warnings
 
 import messages
 from checks import CSM
-from peers import LIMIT, Server, free_port
+from peers import LIMIT, Server, free_port, soon
 from peers import LOCAL as HOST
 from workspace import ROOT
 
@@ -225,12 +225,7 @@ class Front:
 
     def wait(self, happens, seconds=LIMIT):
         """Waits until a condition holds, and returns false at a timeout."""
-        ends = time.monotonic() + seconds
-        while not happens():
-            if time.monotonic() > ends:
-                return False
-            time.sleep(0.02)
-        return True
+        return soon(lambda: bool(happens()), seconds=seconds)
 
     def peer(self, kind=Kind()):
         """Returns a connection after its TLS handshake."""

@@ -2,7 +2,6 @@
 
 import contextlib
 import os
-import re
 import shlex
 import subprocess
 import time
@@ -62,20 +61,6 @@ def replay(server, words, text=b""):
     and its error output."""
     done = subprocess.run([server, *words], input=text, capture_output=True, timeout=8 * LIMIT)
     return done.returncode, joined(done.stdout.split(b"\n"), b"out "), done.stderr
-
-
-def resident(server):
-    """Returns the resident memory of a server, in kB."""
-    with open("/proc/%d/status" % server.process.pid, encoding="ascii") as it:
-        return int(re.search(r"VmRSS:\s+(\d+) kB", it.read())[1])
-
-
-def until(holds):
-    """Waits until a condition holds, and returns true if it does in time."""
-    ends = time.monotonic() + LIMIT
-    while not holds() and time.monotonic() < ends:
-        time.sleep(0.02)
-    return holds()
 
 
 def said_by(server, seconds=0.3):

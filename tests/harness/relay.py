@@ -8,7 +8,7 @@ from capture import Conversation
 from peers import LIMIT, authority, family_of
 
 
-class Relay:
+class RecordingRelay:
     """Listens for one client, and connects it to the server."""
 
     def __init__(self, host, port):

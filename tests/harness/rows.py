@@ -44,11 +44,15 @@ from concurrent.futures import ThreadPoolExecutor
 from dataclasses import dataclass, field
 
 import allocations
+from commands import preloaded
 from workspace import program_name
 
 HARNESS = pathlib.Path(__file__).resolve().parent
 ROOT = HARNESS.parent.parent
 ROWS = ROOT / "tests" / "vectors" / "rows"
+
+# The crate of the probe.
+PROBE = "test_rows"
 
 # Matches a result that reports an allocation failure.
 MEMORY = re.compile(r"\bmemory\b", re.IGNORECASE)
@@ -93,11 +97,9 @@ def folder_of(flags):
     return next((it.partition("=")[2] for it in flags if it.startswith("--unproved=")), "")
 
 
-def probe_of(file, ending="", folder=""):
-    """Returns the path of the probe that plays the rows of a file: as proved, for one compiler, or as built unproved in
-    a folder."""
-    crate = file.layer().PROBE
-    return f"{folder}/{program_name(crate)}" if folder else f"{ROOT}/crates/{crate}/out/{crate}{ending}"
+def probe_of(ending="", folder=""):
+    """Returns the path of the probe: as proved, for one compiler, or as built unproved in a folder."""
+    return f"{folder}/{program_name(PROBE)}" if folder else f"{ROOT}/crates/{PROBE}/out/{PROBE}{ending}"
 
 
 @dataclass
@@ -206,20 +208,13 @@ def refuse(file, probe, shim):
     return count, wrong, calls
 
 
-def compiled_shim(room):
-    shim = f"{room}/fail_malloc.so"
-    subprocess.run(["gcc", "-O2", "-shared", "-fPIC", "-o", shim, f"{HARNESS}/fail_malloc.c"], check=True)
-    return shim
-
-
 def main(words):
     flags, named = [it for it in words if it.startswith("--")], [it for it in words if not it.startswith("--")]
     files = [read(pathlib.Path(it).resolve()) for it in named] or [read(it) for it in sorted(ROWS.glob("*/*.rows"))]
     with tempfile.TemporaryDirectory(prefix="rows-") as room, ThreadPoolExecutor(len(os.sched_getaffinity(0))) as pool:
-        shim = compiled_shim(room) if "--refuse" in flags else ""
-        ending, folder = ".by-rattle" if "--by-rattle" in flags else "", folder_of(flags)
-        played = [(file, probe_of(file, ending, folder)) for file in files]
-        results = pool.map(lambda it: refuse(*it, shim) if shim else (*play(*it), Counter()), played)
+        shim = preloaded("fail_malloc", room) if "--refuse" in flags else ""
+        probe = probe_of(".by-rattle" if "--by-rattle" in flags else "", folder_of(flags))
+        results = pool.map(lambda it: refuse(it, probe, shim) if shim else (*play(it, probe), Counter()), files)
         count, failed, calls = 0, 0, Counter()
         for file, (rows, wrong, refused) in zip(files, results):
             count, failed, calls = count + rows, failed + len(wrong), calls + refused

@@ -92,6 +92,7 @@ BUILD_ARCHIVE = Step(["python3", "tests/system/c_library.py", "--archive"], 180,
 SOURCES = [
     Step(["python3", "tests/tools/layout.py"], 10, 16),
     Step(["python3", "tests/tools/crate_limits.py"], 1, 1),
+    Step(["python3", "tests/tools/unused_lemmas.py"], 3, 3),
     Step(["python3", "tests/tools/conformance.py"], 1, 1),
     Step(["python3", "tests/tools/guarantees.py"], 2, 1),
     Step(["python3", "tests/tools/examples.py"], 1, 1),

@@ -1,11 +1,10 @@
 """Programs whose calls are recorded by preloaded libraries, and whose waits may end early."""
 
 import os
-import subprocess
 import tempfile
 import time
 
-from rows import HARNESS
+from commands import preloaded
 
 
 class Waits:
@@ -17,16 +16,11 @@ class Waits:
 
     def __init__(self, *libraries, at_most=None, **settings):
         self.folder, self.reported = tempfile.TemporaryDirectory(prefix="waits-"), tempfile.TemporaryFile()
-        made = [self.compiled(it) for it in ("waits", *libraries)]
+        made = [preloaded(it, self.folder.name) for it in ("waits", *libraries)]
         if at_most is not None:
             settings["WAIT_AT_MOST"] = at_most
         settings.update(LD_PRELOAD=" ".join(made), WAITS_TOLD=self.reported.fileno())
         self.settings = {**os.environ, **{name: str(value) for name, value in settings.items()}}
-
-    def compiled(self, name):
-        library = "%s/%s.so" % (self.folder.name, name)
-        subprocess.run(["gcc", "-O2", "-shared", "-fPIC", "-o", library, "%s/%s.c" % (HARNESS, name)], check=True)
-        return library
 
     def how(self, **settings):
         """Returns the arguments of Popen for such a program, and clears the record."""

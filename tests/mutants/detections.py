@@ -17,9 +17,9 @@ def is_detected(edit):
     file = rows.read(pathlib.Path(ROOT, edit.detected_by))
     steps = file.steps()
     with tempfile.TemporaryDirectory(prefix="edits-", ignore_cleanup_errors=True) as room:
-        if build([file.layer().PROBE], room, {edit.crate: edit.applied({})}, level=0):
+        if build([rows.PROBE], room, {edit.crate: edit.applied({})}, level=0):
             return False
-        lines = rows.run(rows.probe_of(file, folder=room), [step.event for step in steps]).lines[: len(steps)]
+        lines = rows.run(rows.probe_of(folder=room), [step.event for step in steps]).lines[: len(steps)]
     # A missing line detects nothing.
     return bool(rows.differences(lines, steps[: len(lines)]))
 

@@ -74,14 +74,10 @@ Rounds run in parallel, one for each processor, those of the largest crates firs
 from out/rlib, and proved if they are missing or older than their files. The last line is 'N passed, M failed', and the
 status is 0 if M is 0.
 
-A whole run of 1,265 edits took 13,564 s of processor time, and 85 minutes on four processors, beside other work. Other
-costs, in processor time: a round takes about 15 s before its first edit. Each edit adds 3 to 4 s, and up to 15 s in
-coap_serve. The control takes 140 s. The check of all quotes takes 2 s, and that of the types 4 to 8 s for each of 40
-copies of crates. A build for an edit of another layer takes about two minutes. In a clone without incremental data, the
-first round of a crate also proves the functions that it changes, and those that they call. There 343 edits of 17 crates
-took 2,500 to 2,950 s, with the control and the types: 7 s an edit. By that figure, MOST_IN_GATE edits of a few crates
-take 350 s. One or two edits of each crate would take about 900 s, because each crate needs a round. The proof of
-coap_wire takes 160 s on that machine.
+A whole run takes about 11 s of processor time for each edit, and 85 minutes on four processors, beside other work. A
+round takes about 15 s before its first edit. Each edit adds 3 to 4 s, and up to 15 s in coap_serve. Without incremental
+data, the first round of a crate also proves the functions that it changes, and those that they call. MOST_IN_GATE edits
+of a few crates then take 350 s. The proof of coap_wire takes 160 s on that machine.
 
 A test that measures processor time may fail with an unproved program without any edit, and then says nothing about the
 edit.

@@ -27,8 +27,8 @@ from dataclasses import dataclass
 
 sys.path.insert(0, os.path.join(os.path.dirname(os.path.abspath(__file__)), "..", "harness"))
 import allocations  # noqa: E402
-import rows  # noqa: E402
 from checks import CSM, GREETING  # noqa: E402
+from commands import preloaded  # noqa: E402
 from peers import free_port, line_of, started  # noqa: E402
 from message_syntax import encoded  # noqa: E402
 
@@ -317,7 +317,7 @@ def main(words):
     }
     passed, failed, calls = 0, 0, {}
     with tempfile.TemporaryDirectory(prefix="refused-") as room, ThreadPoolExecutor(len(runs)) as pool:
-        shim = rows.compiled_shim(room)
+        shim = preloaded("fail_malloc", room)
         chosen = {name: run for name, run in runs.items() if not named or name in named}
         running = {name: pool.submit(refuse_each, name, *run, shim) for name, run in chosen.items()}
         for name, it in running.items():

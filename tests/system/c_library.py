@@ -85,8 +85,7 @@ def main(server, client=None, archive=None):
         archive = archive or build_archive()
         made = build(checks, archive, room)
         checks.add(side_by_side(runs(made, server, client, archive, room), PROCESSORS))
-    print(f"{checks.passed} passed, {checks.failed} failed")
-    return 1 if checks.failed else 0
+    return checks.end()
 
 
 if __name__ == "__main__":

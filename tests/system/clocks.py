@@ -21,8 +21,8 @@ from concurrent.futures import ThreadPoolExecutor
 sys.path.insert(0, os.path.join(os.path.dirname(os.path.abspath(__file__)), "..", "harness"))
 import messages  # noqa: E402
 from checks import CSM, Checks  # noqa: E402
+from commands import preloaded  # noqa: E402
 from peers import LIMIT, LOCAL, Server, authority, read_bytes, started  # noqa: E402
-from rows import HARNESS  # noqa: E402
 
 HOUR = 3600
 
@@ -41,8 +41,7 @@ class SystemClock:
 
     def __init__(self):
         self.folder, self.step = tempfile.TemporaryDirectory(prefix="clocks-"), tempfile.TemporaryFile()
-        self.library = os.path.join(self.folder.name, "clock_step.so")
-        subprocess.run(["gcc", "-O2", "-shared", "-fPIC", "-o", self.library, "%s/clock_step.c" % HARNESS], check=True)
+        self.library = preloaded("clock_step", self.folder.name)
         self.ahead(0)
 
     def ahead(self, seconds):
@@ -243,13 +242,12 @@ def run(check, programs):
 def main(words):
     programs = Programs(*words[:2])
     chosen = [it for it in CHECKS if not words[2:] or it.__name__.removeprefix("check_") in words[2:]]
-    passed = failed = 0
+    total = Checks()
     with ThreadPoolExecutor(len(CHECKS)) as pool:
         for check, (checks, seconds) in zip(chosen, pool.map(lambda it: run(it, programs), chosen)):
-            passed, failed = passed + checks.passed, failed + checks.failed
+            total.add(checks)
             print("%s: %.1f s" % (check.__name__.removeprefix("check_"), seconds), flush=True)
-    print("clocks: %d passed, %d failed" % (passed, failed))
-    return 1 if failed else 0
+    return total.end("clocks")
 
 
 if __name__ == "__main__":

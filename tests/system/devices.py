@@ -17,8 +17,8 @@ import tempfile
 import threading
 
 sys.path.insert(0, os.path.join(os.path.dirname(os.path.abspath(__file__)), "..", "harness"))
-import rows  # noqa: E402
 from checks import CSM, GREETING, Checks  # noqa: E402
+from commands import preloaded  # noqa: E402
 from peers import free_port, line_of, started  # noqa: E402
 from alloc_failures import ASKED, ASKING, HOST, LIMIT, LINES, SCRIPT, SERVER_HOST, answer, received  # noqa: E402
 
@@ -154,14 +154,12 @@ def check_server_socket(checks, server, shim):
 def main(server, client):
     checks, server, client = Checks(), os.path.abspath(server), os.path.abspath(client)
     with tempfile.TemporaryDirectory(prefix="devices-") as room:
-        shim = f"{room}/devices.so"
-        subprocess.run(["gcc", "-O2", "-shared", "-fPIC", "-o", shim, f"{rows.HARNESS}/devices.c"], check=True)
+        shim = preloaded("devices", room)
         check_script(checks, server, shim)
         check_client_streams(checks, client, shim)
         check_client_socket(checks, client, shim)
         check_server_socket(checks, server, shim)
-    print("devices: %d passed, %d failed" % (checks.passed, checks.failed))
-    return 1 if checks.failed else 0
+    return checks.end("devices")
 
 
 if __name__ == "__main__":

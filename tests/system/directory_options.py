@@ -19,8 +19,8 @@ import messages  # noqa: E402
 from checks import Checks  # noqa: E402
 from directory_peers import CSM, DELETE, GET, LINK_FORMAT, NODE, POST, SENSORS, request  # noqa: E402
 from option_table import recorded  # noqa: E402
-from peers import LIMIT, LOCAL, Server, free_port, line_of, read_to_end, started  # noqa: E402
-from records import Record, record_in, replay, said_by, until  # noqa: E402
+from peers import LIMIT, LOCAL, Server, free_port, line_of, read_to_end, soon, started  # noqa: E402
+from records import Record, record_in, replay, said_by  # noqa: E402
 
 # Code of a Release (RFC 8323 section 5.5).
 RELEASE = 0xE4
@@ -58,7 +58,7 @@ def check_record(checks, program, server, explain):
         name = f"{folder}/record"
         with Server(program, ["--record", name]) as directory:
             got = {1: talked(directory.connect, *REQUESTS), 2: talked(directory.connect, *REQUESTS[1:3])}
-            until(lambda: os.path.getsize(name) > 0 and b"drop 2" in record_in(name).text)
+            soon(lambda: os.path.getsize(name) > 0 and b"drop 2" in record_in(name).text)
             directory.end()
         record = record_in(name)
         codes = [messages.parse(it)[0] for it in messages.split(got[1])[0]]
@@ -149,8 +149,7 @@ def main(program, server, explain, *named):
     for check in CHECKS:
         if not named or check.__name__.removeprefix("check_") in named:
             check(checks, program, server, explain)
-    print(f"{checks.passed} passed, {checks.failed} failed")
-    return int(checks.failed > 0)
+    return checks.end()
 
 
 if __name__ == "__main__":

@@ -96,8 +96,7 @@ def main(words):
     found = list(runs([os.path.abspath(it) for it in words]))
     checks = side_by_side(found, len(found))
     checks.same("documents with a session", [it[1] for it in found if it[0] == check_session], DOCUMENTS)
-    print(f"{checks.passed} passed, {checks.failed} failed")
-    return 1 if checks.failed else 0
+    return checks.end()
 
 
 if __name__ == "__main__":

@@ -181,8 +181,7 @@ def main(program, observer, actuator, server, client_program):
             gateway.kill()
             gateway.wait(LIMIT)
             gateway.stderr.close()
-    print(f"{checks.passed} passed, {checks.failed} failed")
-    return 1 if checks.failed else 0
+    return checks.end()
 
 
 if __name__ == "__main__":

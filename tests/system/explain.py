@@ -44,8 +44,7 @@ def main():
     check_failed_allocations(checks)
     check_live(checks)
     check_memory(checks, number_after("--megabytes", 50))
-    print("explain: %d passed, %d failed" % (checks.passed, checks.failed))
-    return 1 if checks.failed else 0
+    return checks.end("explain")
 
 
 if __name__ == "__main__":

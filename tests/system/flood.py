@@ -13,7 +13,6 @@
 
 import contextlib
 import os
-import re
 import select
 import socket
 import sys
@@ -23,8 +22,8 @@ sys.path.insert(0, os.path.join(os.path.dirname(os.path.abspath(__file__)), ".."
 import messages  # noqa: E402
 from checks import CSM, Checks  # noqa: E402
 from peers import LOCAL as HOST  # noqa: E402
-from peers import PACKET, ROOM, Server  # noqa: E402
-from message_syntax import encoded, uint  # noqa: E402
+from peers import PACKET, ROOM, Server, resident  # noqa: E402
+from message_syntax import requested, uint  # noqa: E402
 
 # Seconds for each wait, and for a response to a client beside a slow peer.
 LIMIT = 20
@@ -32,7 +31,7 @@ ANSWERED_IN = 2
 
 # Codes and options.
 GET, PUT, CREATED, CHANGED, CONTENT, NOT_ACCEPTABLE, TOO_LARGE = 0x01, 0x03, 0x41, 0x44, 0x45, 0x86, 0x8D
-OBSERVE, URI_PATH, SIZE1 = 6, 11, 60
+OBSERVE, SIZE1 = 6, 60
 
 # The CSM of a peer with the same limits as the server.
 SETTINGS = bytes.fromhex(CSM)
@@ -43,18 +42,6 @@ GROWTH = 256 * 1024
 
 # Maximum number of bytes of a representation.
 MOST = 65_000
-
-
-def request(code, token, path, options=(), payload=b""):
-    """Returns a request; the path is a text."""
-    named = [(URI_PATH, it.encode()) for it in path.split("/")[1:]]
-    return encoded(code, token, sorted([*options, *named], key=lambda it: it[0]), payload)
-
-
-def resident(process):
-    """Returns the resident memory of a process, in bytes."""
-    with open(f"/proc/{process.pid}/status", encoding="ascii") as lines:
-        return int(re.search(r"VmRSS:\s*(\d+) kB", lines.read())[1]) * 1024
 
 
 class Peer:
@@ -119,7 +106,7 @@ def serving(checks, server, words):
 def observe_all(peer, paths, count):
     """Registers `count` observers, on one path after the other, and reads nothing."""
     for number in range(count):
-        peer.connection.sendall(request(GET, number.to_bytes(2, "big"), paths[number % len(paths)], [(OBSERVE, b"")]))
+        peer.connection.sendall(requested(GET, number.to_bytes(2, "big"), paths[number % len(paths)], [(OBSERVE, b"")]))
 
 
 def put_often(peer, paths, first, last):
@@ -128,7 +115,7 @@ def put_often(peer, paths, first, last):
     codes = set()
     for number in range(first, last):
         token = uint(number) or b"\0"
-        codes.add(peer.ask(request(PUT, token, paths[number % len(paths)], payload=b"%d" % number), token)[0])
+        codes.add(peer.ask(requested(PUT, token, paths[number % len(paths)], payload=b"%d" % number), token)[0])
     return codes
 
 
@@ -144,7 +131,7 @@ def check_observers(checks, server):
             checks.same("all PUTs are answered", put_often(good, paths, WARM, PUTS), {CHANGED})
             seconds, after = time.monotonic() - began, resident(process)
             checks.same("resident memory stays the same", after - before if after - before > GROWTH else 0, 0)
-            code, _, _, payload = good.ask(request(GET, b"\1\2\3", paths[(PUTS - 1) % 16]), b"\1\2\3")
+            code, _, _, payload = good.ask(requested(GET, b"\1\2\3", paths[(PUTS - 1) % 16]), b"\1\2\3")
             checks.same("the last PUT is stored", (code, payload), (CONTENT, b"%d" % (PUTS - 1)))
     print(f"beside 256 observers that are never read: {(PUTS - WARM) / seconds:,.0f} PUTs a second, "
           f"{before // 1024:,} kB resident, then {after // 1024:,} kB")
@@ -154,7 +141,7 @@ def greatest_puts(peer, number):
     """Returns the codes of two PUTs of the maximum size at the peer's own path, and of one with a byte more."""
     codes = []
     for token, size in ((b"\1", MOST), (b"\2", MOST), (b"\3", MOST + 1)):
-        code, _, options, _ = peer.ask(request(PUT, token, f"/{number}", payload=b"x" * size), token)
+        code, _, options, _ = peer.ask(requested(PUT, token, f"/{number}", payload=b"x" * size), token)
         codes.append((code, dict(options).get(SIZE1)))
     return codes
 
@@ -166,7 +153,7 @@ def check_puts(checks, server):
         peers = [stack.enter_context(Peer(address)) for _ in range(64)]
         # All first PUTs are sent before any response is read.
         for number, peer in enumerate(peers):
-            peer.connection.sendall(request(PUT, b"\0", f"/{number}", payload=b"%d" % number))
+            peer.connection.sendall(requested(PUT, b"\0", f"/{number}", payload=b"%d" % number))
         first = [peer.answer(b"\0")[0] for peer in peers]
         checks.same("resources created up to the limit", [first.count(it) for it in (CREATED, NOT_ACCEPTABLE)],
                     [16, 48])
@@ -175,7 +162,7 @@ def check_puts(checks, server):
             stored = (CHANGED if made == CREATED else NOT_ACCEPTABLE, None)
             checks.same(f"PUTs of peer {number}", greatest_puts(peer, number), [stored, stored, large])
         kept = first.index(CREATED)
-        code, _, _, payload = peers[-1].ask(request(GET, b"\4", f"/{kept}"), b"\4")
+        code, _, _, payload = peers[-1].ask(requested(GET, b"\4", f"/{kept}"), b"\4")
         checks.same("a stored representation is complete", (code, payload == b"x" * MOST), (CONTENT, True))
         print(f"64 peers, 16 resources of {MOST:,} bytes: {resident(process) // 1024:,} kB resident")
 
@@ -193,7 +180,7 @@ def ask_until_full(peer):
     peer.connection.setblocking(False)
     while select.select([], [peer.connection], [], 1)[1]:
         if not rest:
-            rest, count = request(GET, count.to_bytes(4, "big"), "/big", [PADDING]), count + 1
+            rest, count = requested(GET, count.to_bytes(4, "big"), "/big", [PADDING]), count + 1
         with contextlib.suppress(BlockingIOError):
             rest = rest[peer.connection.send(rest) :]
     peer.connection.settimeout(LIMIT)
@@ -224,7 +211,7 @@ class Beside:
 
     def __call__(self):
         began = time.monotonic()
-        code, _, _, payload = self.peer.ask(request(GET, b"\7", ""), b"\7")
+        code, _, _, payload = self.peer.ask(requested(GET, b"\7", ""), b"\7")
         self.answers.add((code, payload))
         self.slowest = max(self.slowest, time.monotonic() - began)
 
@@ -234,9 +221,9 @@ def check_slow(checks, server):
     with serving(checks, server, ["-d", "1"]) as (process, address):
         beside = Beside(address)
         with beside.peer, Peer(address, is_narrow=True) as slow:
-            checks.same("the resource", beside.peer.ask(request(PUT, b"\1", "/big", payload=BODY), b"\1")[0], CREATED)
+            checks.same("the resource", beside.peer.ask(requested(PUT, b"\1", "/big", payload=BODY), b"\1")[0], CREATED)
             before = resident(process)
-            slow.connection.sendall(request(GET, b"time", "/time", [(OBSERVE, b"")]))
+            slow.connection.sendall(requested(GET, b"time", "/time", [(OBSERVE, b"")]))
             count, rest = ask_until_full(slow)
             beside()
             after = resident(process)
@@ -264,8 +251,7 @@ def main(server, *named):
             CHECKS[name](checks, os.path.abspath(server))
         except (OSError, messages.Malformed) as trouble:
             checks.same(name, repr(trouble), "no trouble")
-    print("flood: %d passed, %d failed" % (checks.passed, checks.failed))
-    return 1 if checks.failed else 0
+    return checks.end("flood")
 
 
 if __name__ == "__main__":

@@ -28,7 +28,7 @@ from checks import Checks  # noqa: E402
 from documented import check_documented, check_one_server  # noqa: E402
 from greedy_sources import check_places, check_rate, check_silent  # noqa: E402
 from libcoap_over_tls import check_file, check_libcoap  # noqa: E402
-from packages import install  # noqa: E402
+from packages import require  # noqa: E402
 from proxies import Setting, certify  # noqa: E402
 from silent_peers import check_alive, check_idle, check_unread  # noqa: E402
 from tls_peers import check_certified, check_constrained, check_tls  # noqa: E402
@@ -100,7 +100,7 @@ def check_all(checks, server, folder):
     """Runs all checks on the unchanged configuration."""
     for check in CHECKS:
         began, counted = time.monotonic(), made(check, server, folder)
-        checks.passed, checks.failed = checks.passed + counted.passed, checks.failed + counted.failed
+        checks.add(counted)
         got = check.__name__, counted.passed, counted.failed, time.monotonic() - began
         print("%s: %d passed, %d failed, %.1f s" % got, flush=True)
 
@@ -115,14 +115,11 @@ def check_broken(checks, server, folder):
 def main(words):
     checks = Checks()
     run = check_broken if words[0] == "--broken" else check_all
-    if not install(PACKAGES):
-        print("FAILED front: the packages %s cannot be installed" % ", ".join(PACKAGES.values()))
-        return 1
+    require(PACKAGES)
     with tempfile.TemporaryDirectory() as folder:
         certify(folder)
         run(checks, os.path.abspath(words[-1]), folder)
-    print("HAProxy in front: %d passed, %d failed" % (checks.passed, checks.failed))
-    return 1 if checks.failed else 0
+    return checks.end("HAProxy in front")
 
 
 if __name__ == "__main__":

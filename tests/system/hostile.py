@@ -137,8 +137,7 @@ def main(words):
         checks.same("all checks run", trouble, None)
     seconds = time.monotonic() - began
     checks.same("total seconds", seconds if seconds > WHOLE else WHOLE, WHOLE)
-    print("hostile: %d passed, %d failed" % (checks.passed, checks.failed))
-    return 1 if checks.failed else 0
+    return checks.end("hostile")
 
 
 if __name__ == "__main__":

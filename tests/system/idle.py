@@ -24,7 +24,7 @@ import time
 sys.path.insert(0, os.path.join(os.path.dirname(os.path.abspath(__file__)), "..", "harness"))
 import messages  # noqa: E402
 from checks import CSM, GREETING, Checks  # noqa: E402
-from message_syntax import encoded, uint  # noqa: E402
+from message_syntax import requested, uint  # noqa: E402
 from peers import Server, is_silent  # noqa: E402
 
 # Seconds after which all silent peers must be gone, between two Pings, and between two requests of the good peer.
@@ -50,15 +50,10 @@ LARGE_SETTINGS = bytes.fromhex("40e1" "23010000")
 DONE = bytes.fromhex("614505c0ff" "646f6e65")
 
 # Codes and options.
-GET, PUT, OBSERVE, URI_PATH, URI_QUERY = 0x01, 0x03, 6, 11, 15
+GET, PUT, OBSERVE, URI_QUERY = 0x01, 0x03, 6, 15
 
 # Bytes of the representation that the peer requests which never reads.
 BIG = 60_000
-
-
-def request(code, token, path, options=(), payload=b""):
-    named = [(URI_PATH, it.encode()) for it in path.split("/")[1:] if it]
-    return encoded(code, bytes([token]), sorted([*options, *named], key=lambda it: it[0]), payload)
 
 
 class Peer:
@@ -72,8 +67,8 @@ class Peer:
         self.socket.connect((server.host, server.port))
         self.socket.sendall(settings)
 
-    def ask(self, *words, **more):
-        self.socket.sendall(request(*words, **more))
+    def ask(self, code, token, *words, **more):
+        self.socket.sendall(requested(code, bytes([token]), *words, **more))
 
     def look(self):
         """Reads what has arrived, and notes the end of the connection with its time."""
@@ -118,7 +113,7 @@ def sockets_of(server):
 def fill(peer):
     """Requests the large representation until the server accepts no more."""
     peer.socket.settimeout(1)
-    requests = b"".join(request(GET, token, "/big") for token in range(256))
+    requests = b"".join(requested(GET, bytes([token]), "/big") for token in range(256))
     with contextlib.suppress(TimeoutError):
         for _ in range(400):
             peer.socket.sendall(requests)
@@ -160,10 +155,10 @@ def check(checks, program):
         opened = time.monotonic()
         mute, mild = Peer(patient, b""), Peer(patient)
         stays = [Peer(plain, it) for it in (b"", SETTINGS)]
-        began, requested, pinged, slow = time.monotonic(), 0, 0, 0
+        began, asked, pinged, slow = time.monotonic(), 0, 0, 0
         while (passed := time.monotonic() - began) < WINDOW:
-            if passed >= requested * ASK_EVERY:
-                requested += 1
+            if passed >= asked * ASK_EVERY:
+                asked += 1
                 slow += serve(checks, good) > SOON
             if passed >= pinged * PING_EVERY:
                 pinged += 1
@@ -195,8 +190,7 @@ def check(checks, program):
 def main():
     checks = Checks()
     check(checks, os.path.abspath(sys.argv[1]))
-    print(f"{checks.passed} passed, {checks.failed} failed")
-    return 1 if checks.failed else 0
+    return checks.end()
 
 
 if __name__ == "__main__":

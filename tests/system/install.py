@@ -252,19 +252,13 @@ def check(programs, archive):
         check_recording_unit(checks, tree)
         check_unit(checks, tree)
         check_numbered_unit(checks, tree)
-    print("install: %d passed, %d failed" % (checks.passed, checks.failed))
-    return 1 if checks.failed else 0
+    return checks.end("install")
 
 
 def main(words):
-    try:
-        *programs, archive = map(os.path.abspath,
-                                 words if len(words) > len(PROGRAMS)
-                                 else [*words, os.path.join(ROOT, "bin/libdachreup.a")])
-        return check(programs, archive)
-    except (OSError, subprocess.SubprocessError) as trouble:
-        print("FAILED install: %s" % trouble)
-        return 1
+    *programs, archive = map(os.path.abspath,
+                             words if len(words) > len(PROGRAMS) else [*words, os.path.join(ROOT, "bin/libdachreup.a")])
+    return check(programs, archive)
 
 
 if __name__ == "__main__":

@@ -22,7 +22,7 @@ from capture import decode, faults, of_side  # noqa: E402
 from checks import Checks  # noqa: E402
 from packages import install  # noqa: E402
 from peers import LIMIT, Server, started  # noqa: E402
-from relay import Relay  # noqa: E402
+from relay import RecordingRelay  # noqa: E402
 
 PACKAGES = {"coap-client-notls": "libcoap3-bin", "coap-server-notls": "libcoap3-bin", "tshark": "tshark"}
 
@@ -133,7 +133,7 @@ class Ends:
 
     def relay(self, name):
         """Returns a relay for one client, and records its conversation under a name."""
-        relay = Relay(self.server.host, self.server.port)
+        relay = RecordingRelay(self.server.host, self.server.port)
         self.conversations.append((name, relay.conversation))
         return relay
 
@@ -338,8 +338,7 @@ def main(words):
         check_all(checks, *(os.path.abspath(it) for it in words))
     except (OSError, struct.error, subprocess.SubprocessError) as trouble:
         checks.same("all checks run", trouble, None)
-    print("interop: %d passed, %d failed" % (checks.passed, checks.failed))
-    return 1 if checks.failed else 0
+    return checks.end("interop")
 
 
 if __name__ == "__main__":

@@ -9,14 +9,13 @@ records the bytes of both directions.
 import concurrent.futures
 import os
 import socket
-import struct
 import subprocess
 import sys
 
 sys.path.insert(0, os.path.join(os.path.dirname(os.path.abspath(__file__)), "..", "harness"))
 from capture import Conversation, decode, faults, messages_of, of_side  # noqa: E402
 from checks import Checks  # noqa: E402
-from packages import install  # noqa: E402
+from packages import require  # noqa: E402
 from peers import LIMIT, LOCAL, started  # noqa: E402
 
 PACKAGES = {"coap-client-notls": "libcoap3-bin", "tshark": "tshark"}
@@ -117,19 +116,12 @@ def check(program):
         check_bytes(checks, name, case[5], conversation.stream(True), rows)
     for (name, _, wanted), rows in zip(BROKEN, decoded[len(CASES):]):
         check_broken(checks, name, wanted, rows)
-    print("libcoap's client, and tshark: %d passed, %d failed" % (checks.passed, checks.failed))
-    return 1 if checks.failed else 0
+    return checks.end("libcoap's client, and tshark")
 
 
 def main(words):
-    try:
-        if not install(PACKAGES):
-            print("FAILED libcoap: the packages %s cannot be installed" % ", ".join(PACKAGES.values()))
-            return 1
-        return check(os.path.abspath(words[0]))
-    except (OSError, struct.error, subprocess.SubprocessError) as trouble:
-        print("FAILED libcoap: %s" % trouble)
-        return 1
+    require(PACKAGES)
+    return check(os.path.abspath(words[0]))
 
 
 if __name__ == "__main__":

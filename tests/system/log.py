@@ -40,8 +40,7 @@ def main(chosen):
                 check(checks, *counts.get(check, []))
             except (OSError, ValueError, IndexError, subprocess.SubprocessError) as trouble:
                 checks.same(check.__name__, repr(trouble), "no trouble")
-    print("%d passed, %d failed" % (checks.passed, checks.failed))
-    return int(checks.failed > 0)
+    return checks.end()
 
 
 if __name__ == "__main__":

@@ -8,7 +8,6 @@ The script needs Debian's packages mandoc and socat, and installs the missing on
 
 import contextlib
 import os
-import subprocess
 import sys
 import tempfile
 
@@ -28,7 +27,7 @@ from manual_options import (  # noqa: E402
 )
 from manual_pages import Manual  # noqa: E402
 from manual_sources import SOURCES, source_of  # noqa: E402
-from packages import install  # noqa: E402
+from packages import require  # noqa: E402
 from peers import closed_port  # noqa: E402
 
 PACKAGES = {"mandoc": "mandoc", "socat": "socat"}
@@ -85,19 +84,12 @@ def check(server, client, explain, directory):
         check_answered(checks, Manual("coap-directory"), directory, [], programs)
         check_relay(checks, Manual("coap-client"), server, programs)
         check_shared(checks, shared, programs)
-    print("manuals: %d passed, %d failed" % (checks.passed, checks.failed))
-    return 1 if checks.failed else 0
+    return checks.end("manuals")
 
 
 def main(words):
-    try:
-        if not install(PACKAGES):
-            print("FAILED manuals: the packages %s cannot be installed" % ", ".join(PACKAGES.values()))
-            return 1
-        return check(*(os.path.abspath(word) for word in words))
-    except (OSError, subprocess.SubprocessError) as trouble:
-        print("FAILED manuals: %s" % trouble)
-        return 1
+    require(PACKAGES)
+    return check(*(os.path.abspath(word) for word in words))
 
 
 if __name__ == "__main__":

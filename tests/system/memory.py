@@ -22,7 +22,7 @@ import tempfile
 
 sys.path.insert(0, os.path.join(os.path.dirname(os.path.abspath(__file__)), "..", "harness"))
 from checks import CSM, GREETING, side_by_side  # noqa: E402
-from packages import install  # noqa: E402
+from packages import require  # noqa: E402
 from workspace import ROOT  # noqa: E402
 
 PACKAGES = {"valgrind": "valgrind"}
@@ -241,12 +241,9 @@ def runs(server):
 
 
 def main(programs):
-    if not install(PACKAGES):
-        print("FAILED memory: valgrind cannot be installed")
-        return 1
+    require(PACKAGES)
     checks = side_by_side(runs(programs[0]), len(os.sched_getaffinity(0)))
-    print("memory: %d passed, %d failed" % (checks.passed, checks.failed))
-    return 1 if checks.failed else 0
+    return checks.end("memory")
 
 
 if __name__ == "__main__":

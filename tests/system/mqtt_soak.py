@@ -18,7 +18,7 @@ sys.path[:0] = [os.path.join(HERE, "..", "harness"), os.path.join(HERE, "mqtt")]
 from convergence import DISTURBANCES, Disturbed, check_end  # noqa: E402
 from gateway_checks import PACKAGES, made  # noqa: E402
 from gateways import soon  # noqa: E402
-from packages import install  # noqa: E402
+from packages import require  # noqa: E402
 
 WRITES, SECONDS = 200_000, 3_000
 
@@ -72,9 +72,7 @@ def check_soak(checks, program, seed):
 
 
 def main(program, seed=None):
-    if not install(PACKAGES):
-        print("the packages %s cannot be installed\n0 passed, 1 failed" % ", ".join(PACKAGES.values()))
-        return 1
+    require(PACKAGES)
     seed = random.randrange(1 << 32) if seed is None else int(seed)
     print("seed %d" % seed, flush=True)
 
@@ -82,8 +80,7 @@ def main(program, seed=None):
         check_soak(checks, path, seed)
 
     checks = made(check_soak_with_seed, os.path.abspath(program))
-    print("%d passed, %d failed" % (checks.passed, checks.failed))
-    return 1 if checks.failed else 0
+    return checks.end()
 
 
 if __name__ == "__main__":

@@ -8,7 +8,6 @@ and installs the missing ones.
 """
 
 import os
-import subprocess
 import sys
 
 HERE = os.path.dirname(os.path.abspath(__file__))
@@ -16,27 +15,20 @@ sys.path[:0] = [os.path.join(HERE, "..", "harness"), os.path.join(HERE, "options
 from checks import Checks  # noqa: E402
 from completed_words import PROGRAMS, check_completions  # noqa: E402
 from option_checks import Program, check_program  # noqa: E402
-from packages import install  # noqa: E402
+from packages import require  # noqa: E402
 from peers import closed_port  # noqa: E402
 
 PACKAGES = {"fish": "fish", "zsh": "zsh"}
 
 
 def main(words):
-    try:
-        if not install(PACKAGES):
-            print("FAILED options: the packages %s cannot be installed" % ", ".join(PACKAGES.values()))
-            return 1
-        checks = Checks()
-        with closed_port() as port:
-            for name, path in zip(PROGRAMS, words):
-                check_program(checks, Program(name, os.path.abspath(path), port))
-        check_completions(checks)
-    except (OSError, subprocess.SubprocessError) as trouble:
-        print("FAILED options: %s" % trouble)
-        return 1
-    print("options: %d passed, %d failed" % (checks.passed, checks.failed))
-    return 1 if checks.failed else 0
+    require(PACKAGES)
+    checks = Checks()
+    with closed_port() as port:
+        for name, path in zip(PROGRAMS, words):
+            check_program(checks, Program(name, os.path.abspath(path), port))
+    check_completions(checks)
+    return checks.end("options")
 
 
 if __name__ == "__main__":

@@ -12,7 +12,6 @@ compiles the installed example of the C library, and runs it. In the end it purg
 
 import os
 import signal
-import subprocess
 import sys
 import tempfile
 
@@ -23,7 +22,7 @@ from checks import Checks  # noqa: E402
 from installed_packages import check_lives, hindrance  # noqa: E402
 from package_files import PROGRAMS  # noqa: E402
 from package_sources import check_copyright, check_scripts, check_versions  # noqa: E402
-from packages import alone, install  # noqa: E402
+from packages import alone, require  # noqa: E402
 from workspace import ROOT  # noqa: E402
 
 PACKAGES = {
@@ -49,24 +48,16 @@ def check(programs, archive):
             checks.same("obstacle to the installation of the packages", reason, "")
             if not reason:
                 check_lives(checks, *packages, programs[1])
-    print("package: %d passed, %d failed" % (checks.passed, checks.failed))
-    return 1 if checks.failed else 0
+    return checks.end("package")
 
 
 def main(words):
     # A signal ends the script by an exception, so that it purges the packages.
     signal.signal(signal.SIGTERM, lambda *_: sys.exit(1))
-    try:
-        if not install(PACKAGES):
-            print("FAILED package: the packages %s cannot be installed" % ", ".join(PACKAGES.values()))
-            return 1
-        *programs, archive = map(os.path.abspath,
-                                 words if len(words) > len(PROGRAMS)
-                                 else [*words, os.path.join(ROOT, "bin/libdachreup.a")])
-        return check(programs, archive)
-    except (OSError, subprocess.SubprocessError) as trouble:
-        print("FAILED package: %s" % trouble)
-        return 1
+    require(PACKAGES)
+    *programs, archive = map(os.path.abspath,
+                             words if len(words) > len(PROGRAMS) else [*words, os.path.join(ROOT, "bin/libdachreup.a")])
+    return check(programs, archive)
 
 
 if __name__ == "__main__":

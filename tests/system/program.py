@@ -42,8 +42,7 @@ def main(words):
     os.close(folder)
     checks.same("reading fails", (done.returncode, done.stdout.hex(), done.stderr),
                 (3, CSM, b"coap-server: cannot read\n"))
-    print("programs from outside: %d passed, %d failed" % (checks.passed, checks.failed))
-    return 1 if checks.failed else 0
+    return checks.end("programs from outside")
 
 
 if __name__ == "__main__":

@@ -52,8 +52,7 @@ def main(words):
         except (OSError, ValueError, IndexError, subprocess.SubprocessError) as trouble:
             checks.same(check.__name__, repr(trouble), "no trouble")
         print("%s: %.1f s" % (check.__name__.removeprefix("check_"), time.monotonic() - began), flush=True)
-    print("sockets: %d passed, %d failed" % (checks.passed, checks.failed))
-    return 1 if checks.failed else 0
+    return checks.end("sockets")
 
 
 if __name__ == "__main__":

@@ -122,8 +122,7 @@ def main():
     checks = Checks()
     with tempfile.TemporaryDirectory(prefix="tutorial-") as home:
         follow(checks, Reader(home), blocks(read(TUTORIAL)))
-    print(f"{checks.passed} passed, {checks.failed} failed")
-    return 1 if checks.failed else 0
+    return checks.end()
 
 
 if __name__ == "__main__":

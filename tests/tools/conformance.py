@@ -27,8 +27,10 @@ import os
 import re
 import sys
 
-sys.path.insert(0, os.path.join(os.path.dirname(os.path.abspath(__file__)), "..", "harness"))
-from contract_diff import promises  # noqa: E402
+TESTS = os.path.dirname(os.path.dirname(os.path.abspath(__file__)))
+sys.path[:0] = [f"{TESTS}/harness", f"{TESTS}/mutants"]
+from places import block_name  # noqa: E402
+from quotes import Quotes, contracts_of  # noqa: E402
 from steps import STEPS  # noqa: E402
 from workspace import ROOT, listed  # noqa: E402
 
@@ -43,7 +45,6 @@ WORDS = 800
 GENERATED = re.compile(r"(<!-- generated: ([\w ]+) -->\n)(.*?)(<!-- end -->)", re.S)
 POINT = re.compile(r"\bP\d+\b")
 REFERENCE = re.compile(r"(`[^`]+`(?:, `[^`]+`)*)(?: \((.*)\))?")
-CLAUSE = re.compile(r"ensures\*? (\w+) \{")
 
 Row = collections.namedtuple("Row", "line rfc part section requirement status reason definitions functions tests")
 
@@ -160,48 +161,24 @@ def wrong_definitions(cell):
         yield from (f"{file} does not define {name}" for name in names if not defines(text, name))
 
 
-class Functions:
-    """The public functions of the crates, each crate read once."""
-
-    def __init__(self):
-        self.found = {}
-
-    def of(self, crate):
-        if crate not in self.found:
-            self.found[crate] = promises(None, crate)
-        return self.found[crate]
-
-    def clauses(self, path):
-        """Returns the names of the clauses of a function, or None if there is no such function."""
-        crate, *middle, name = path.split("::")
-        if crate not in listed() or len(middle) > 1:
-            return None
-        block = middle[0] if middle and middle[0][0].isupper() else ""
-        if middle and not block and not is_in_module(crate, middle[0], name):
-            return None
-        clauses = self.of(crate).get((block, name))
-        return None if clauses is None else {found[1] for it in clauses if (found := CLAUSE.match(it))}
+def is_public(crate, name):
+    """Returns true if a crate has a public function with this name."""
+    found = contracts_of(crate, block_name).get(name, []) if crate in listed() else []
+    return any(it.head.lstrip().startswith("pub ") for it in found)
 
 
-def is_in_module(crate, module, name):
-    """Returns true if a module, or one below it, has a function with this name."""
-    top = f"{ROOT}/crates/{crate}/src/{module}"
-    files = [f"{top}.rt"] + [f"{at}/{it}" for at, _, names in os.walk(top) for it in names]
-    texts = (read(os.path.relpath(it, ROOT)) or "" for it in files)
-    return any(re.search(rf"\bfn {name}\b", it) for it in texts)
-
-
-def wrong_functions(cell, functions):
+def wrong_functions(cell):
     """Yields the errors in references to functions and clauses."""
     for names, named in references(cell):
         if len(names) != 1:
             yield f"not understood: {named}"
             continue
-        clauses = functions.clauses(names[0])
-        if clauses is None:
+        crate, _, name = names[0].partition("::")
+        if not is_public(crate, name):
             yield f"no public function {names[0]}"
             continue
-        yield from (f"{names[0]} has no clause {it}" for it in filter(None, named.split(", ")) if it not in clauses)
+        yield from (f"{names[0]} has no clause {it}" for it in filter(None, named.split(", "))
+                    if not Quotes(crate, block_name).has((it, ""), name, ()))
 
 
 def test_file(name):
@@ -237,7 +214,7 @@ def wrong_tests(cell, gate):
                     if not re.search(form.format(re.escape(it)), text))
 
 
-def wrong_row(row, functions, gate, points):
+def wrong_row(row, gate, points):
     """Yields the errors in a row."""
     if row.status not in STATUSES or bool(row.reason) == (row.status == "met"):
         yield f"status: {row.status}: {row.reason}"
@@ -248,7 +225,7 @@ def wrong_row(row, functions, gate, points):
     yield from (f"the document lists no point {it}" for it in POINT.findall(f"{row.requirement} {row.reason}")
                 if it not in points)
     yield from wrong_definitions(row.definitions)
-    yield from wrong_functions(row.functions, functions)
+    yield from wrong_functions(row.functions)
     yield from wrong_tests(row.tests, gate)
 
 
@@ -271,12 +248,12 @@ def main(words):
     if "--write" in words:
         write_document(rows)
     text = read(DOCUMENT) or ""
-    functions, gate, passed = Functions(), {word for step in STEPS for word in step.words}, 0
+    gate, passed = {word for step in STEPS for word in step.words}, 0
     points = set(re.findall(r"(?m)^- \*\*(P\d+)\*\* ", text))
     faults = [f"{DOCUMENT}: {it}" for it in wrong_document(text, rows)]
     wrong, passed = wrong + faults, int(not faults)
     for row in rows:
-        faults = [f"{DATA}:{row.line}: {it}" for it in wrong_row(row, functions, gate, points)]
+        faults = [f"{DATA}:{row.line}: {it}" for it in wrong_row(row, gate, points)]
         wrong, passed = wrong + faults, passed + (not faults)
     if "--all" in words:
         tell_counts(rows)

@@ -57,10 +57,12 @@ COLUMNS = ["Part", "Crate", "Claim", "Shown by", "Limits"]
 Claim = namedtuple("Claim", "line part crate claim shown_by limits")
 
 REFERENCE = re.compile(r"(`[^`]+`(?:, `[^`]+`)*)(?: \((.*)\))?")
-FUNCTION = re.compile(r"`(coap_\w+)::([\w:]+)`(?: \(([\w, `]+)\))?")
+# A word that begins as a crate does.
+CRATE = rf"(?:{'|'.join(sorted({it.partition('_')[0] for it in listed()}))})_\w+"
+FUNCTION = re.compile(rf"`({CRATE})::([\w:]+)`(?: \(([\w, `]+)\))?")
 # Functions of one crate, as in `coap_conn: `Link::on`, `Link::due` (`after`)`.
-FUNCTIONS = re.compile(r"\b(coap_\w+): (`[\w:]+`(?:, `[\w:]+`)*)(?: \(([\w, `]+)\))?")
-MUTANT = re.compile(r"`(coap_\w+)/(\w+)` \(([^()]*)\)")
+FUNCTIONS = re.compile(rf"\b({CRATE}): (`[\w:]+`(?:, `[\w:]+`)*)(?: \(([\w, `]+)\))?")
+MUTANT = re.compile(rf"`({CRATE})/(\w+)` \(([^()]*)\)")
 NAME = re.compile(r"`(?![0-9a-f]{6,}`)([A-Za-z_]\w*(?:::\w+)*)`")
 FILE = re.compile(r"`((?:bench|crates|docs|examples|include|install|man|tests)/[^\s`*<]+)`")
 DEFINED = re.compile(r"\[`(\w+)`\]\(\.\./crates/([^()\s]+\.antt)\)")
@@ -71,6 +73,7 @@ SAMPLES = [
     ("`coap_wire::parse` (`found`, `exact`) and `Spells`", []),
     ("`coap_wire::parse` (`after`)", ["parse of coap_wire has no clause after"]),
     ("`coap_wire::laws::parse`", ["coap_wire has no function laws::parse"]),
+    ("`directory_core::parse_all`", ["directory_core has no function parse_all", "no parse_all in the sources"]),
     ("coap_conn: `Link::on`, `Link::parse` (`after`)", ["coap_conn has no function Link::parse"]),
     ("`coap_wire/parse_gives_up` ('exact' of `parse`)", []),
     ("`coap_wire/parse_gives_up` ('a' of `parse`)", ["coap_wire has no mutant parse_gives_up with 'a' of `parse`"]),

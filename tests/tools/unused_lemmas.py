@@ -1,19 +1,13 @@
 #!/usr/bin/env python3
-"""Counts the definitions and lemmas that could be removed, for each crate:
+"""Checks that the crates have no definition, lemma or re-export without a use: tests/tools/unused_lemmas.py [CRATE ..]
 
-    tests/tools/unused_lemmas.py               the counts of every crate, and of all together
-    tests/tools/unused_lemmas.py --list        also each name and line that is counted
-    tests/tools/unused_lemmas.py [--list] CRATE ..  those of these crates
+A definition or lemma of specs/ or proofs/ is used if a root cites it, directly or through others. Roots are the code
+(clauses, `using(..)`, `unfolding(..)`), the answers to the goals of functions, and worked values. So lemmas that cite
+only each other have no use. A name is cited wherever it occurs in its scope, also as a variable. A data type is cited
+by its constructors, a rule set by its name. A re-export of a `specs/Prelude.antt` is used if any file imports or cites
+it from there.
 
-uncited   lemmas and definitions of specs/ and proofs/ that no root cites, directly or through others. Roots are the
-          code (clauses, `using(..)`, `unfolding(..)`), the answers to the goals of functions, and worked values.
-          Lemmas that cite only each other are therefore counted. A name is cited wherever it occurs in its scope,
-          also as a variable. A data type is cited by its constructors, a rule set by its name.
-doubled   names of lemmas that are in more than one file of proofs/, without answers to goals. The line of a crate
-          compares its own files, and the last line those of all crates.
-long      lines of more than 120 columns, with a separate count for ghost imports (`use` and `pub use` in .antt files,
-          `ghost use` in .rt files).
-imports   lines of ghost imports, and the number of these that are in the code.
+A line names each one without a use. The last line is 'N passed, M failed', for the crates and for these lines.
 """
 
 import glob
@@ -26,12 +20,12 @@ from dataclasses import dataclass, field
 sys.path.insert(0, os.path.join(os.path.dirname(os.path.abspath(__file__)), "..", "harness"))
 from workspace import ROOT, crates  # noqa: E402
 
-WIDTH = 120
 ANSWERS = ("Answers", "Invariants", "Proof")
 WORD = re.compile(r"[^\s()\[\]{},;\"λ|]+")
 IMPORT = re.compile(r"(?:ghost |pub |unfoldable pub )?use ([\w.«»]+?)(?:\.\{(.*)\}| as (\w+))?;?$")
 OPEN_IMPORT = re.compile(r"(?:ghost |pub |unfoldable pub )?use [\w.«»]+\.\{$")
 MODULE = re.compile(r"(pub )?mod ")
+COMMENT = re.compile(r"--(?: .*)?$")
 HEAD = re.compile(r"((?:(?:abbrev|unfoldable|pub|record|data|ruleset) )*)([^\s:)\]}][^\s:]*)(?= [:({=]| where|$)")
 
 
@@ -57,11 +51,10 @@ class Scope:
     """The meaning of names in a file: those that it defines or imports, and the modules that it names."""
 
     def __init__(self, module=""):
-        self.module, self.names, self.modules, self.imports, self.passed = module, defaultdict(set), {}, 0, {}
+        self.module, self.names, self.modules, self.passed = module, defaultdict(set), {}, {}
 
     def add_import(self, line):
         path, items, alias = IMPORT.match(line).groups()
-        self.imports += 1
         if items is None:
             self.modules[alias or path.rpartition(".")[2]] = path
         for item in (items or "").split(", "):
@@ -69,6 +62,10 @@ class Scope:
             self.names[alias or name].add(f"{path}.{name}")
             if "pub " in line.partition("use ")[0]:
                 self.passed[f"{self.module}.{alias or name}"] = f"{path}.{name}"
+
+    def targets(self):
+        """Returns the full names of all that the file defines or imports."""
+        return set().union(*self.names.values())
 
     def cited(self, words):
         """Yields the full names that words may refer to."""
@@ -108,13 +105,17 @@ def module_of(path):
     return "Rattle." + path.removeprefix(f"{ROOT}/crates/").removesuffix(".antt").replace("/", ".")
 
 
+def path_of(module):
+    return f"crates/{module.removeprefix('Rattle.').replace('.', '/')}.antt"
+
+
 def read_antt(path, crate):
     """Returns the definitions of a file, and its scope."""
     module = module_of(path)
     scope, found, blocks = Scope(module), [], []
     with open(path, encoding="utf-8") as lines:
         for number, line in joined(lines):
-            line = line.partition("-- ")[0].rstrip()
+            line = COMMENT.sub("", line).rstrip()
             text = line.lstrip()
             if not text:
                 continue
@@ -155,7 +156,7 @@ def begin_or_go_on(found, new, text):
 
 
 def read_rust(path, crate):
-    """Returns the names that a source file cites, and its number of lines of ghost imports."""
+    """Returns the names that a source file cites, and those that it imports."""
     scope, words = Scope(f"Rattle.{crate}"), []
     with open(path, encoding="utf-8") as lines:
         for _, line in joined(lines):
@@ -166,7 +167,7 @@ def read_rust(path, crate):
                 words += re.findall(r"[\w◌]+(?:(?:::|\.)[\w◌]+)*|[^\s\w()\[\]{},;\"]+", line)
     for name, targets in list(scope.names.items()):
         scope.names[operator(name)] |= targets
-    return set(scope.cited(words)), scope.imports
+    return set(scope.cited(words)), scope.targets()
 
 
 def files(crate, ending):
@@ -187,88 +188,57 @@ def reached(definitions, cites, passed, roots):
     return seen
 
 
-def long_lines(crate):
-    """Returns the long lines of a crate: those of ghost imports, and the others."""
-    found = [], []
-    for path in files(crate, "rt") + files(crate, "antt"):
-        with open(path, encoding="utf-8") as lines:
-            for number, line in enumerate(lines, 1):
-                if len(line.rstrip("\n")) > WIDTH:
-                    found[not IMPORT.match(line.strip())].append(f"{path.removeprefix(ROOT + '/')}:{number}")
-    return found
-
-
-def doubled(definitions, among):
-    """Returns the names of lemmas of these crates that are in more than one file of proofs."""
-    where = defaultdict(set)
-    for it in definitions.values():
-        if it.crate in among and ".proofs." in it.module and it.module.rpartition(".")[2] not in ANSWERS:
-            where[it.name].add(it.module)
-    return sorted(f"{name}: {', '.join(sorted(modules))}" for name, modules in where.items() if len(modules) > 1)
-
-
 class Sources:
-    """All definitions by their full names, the names that each cites, and the roots. Also the names that modules
-    re-export, and the number of ghost imports of each crate."""
+    """All definitions by their full names, the names that each cites, the roots, and those that the roots reach. Also
+    the names that modules re-export, each with the name that it stands for, and all names that files import or cite."""
 
     def __init__(self):
-        self.definitions, self.cites, self.roots, self.passed = {}, {}, set(), {}
-        self.imports, self.in_code = defaultdict(int), defaultdict(int)
+        self.definitions, self.cites, self.roots, self.passed, self.named = {}, {}, set(), {}, set()
         for crate in crates():
             for path in files(crate, "antt"):
                 self.add_antt(path, crate)
             for path in files(crate, "rt"):
-                cited, count = read_rust(path, crate)
+                cited, imported = read_rust(path, crate)
                 self.roots |= cited
-                self.imports[crate] += count
-                self.in_code[crate] += count
+                self.named |= cited | imported
+        self.seen = reached(self.definitions, self.cites, self.passed, self.roots)
 
     def add_antt(self, path, crate):
         found, scope = read_antt(path, crate)
-        self.imports[crate] += scope.imports
         self.passed |= scope.passed
+        self.named |= scope.targets()
         for it in found:
             name = f"{it.module}.{it.name}"
             self.definitions[name], self.cites[name] = it, set(scope.cited(it.text))
+            self.named |= self.cites[name]
             if it.is_root():
                 self.roots.add(name)
             for word in constructors(it.text) if "data" in it.words_before else ():
                 self.definitions.setdefault(f"{it.module}.{word}", None)
                 self.cites.setdefault(f"{it.module}.{word}", {name})
 
-    def uncited(self):
-        """Returns the definitions that no root cites."""
-        seen = reached(self.definitions, self.cites, self.passed, self.roots)
-        return {name: it for name, it in self.definitions.items() if it and name not in seen}
+    def uncited(self, crate):
+        """Yields a line for each definition of a crate that no root cites."""
+        for name, it in self.definitions.items():
+            if it and it.crate == crate and name not in self.seen:
+                yield f"{path_of(it.module)}:{it.line}: {it.name} is not cited"
+
+    def unimported(self, crate):
+        """Yields a line for each name that the prelude of a crate re-exports for nobody."""
+        module = f"Rattle.{crate}.specs.Prelude"
+        for name in self.passed:
+            if name.startswith(f"{module}.") and name not in self.named:
+                yield f"{path_of(module)}: {name.removeprefix(f'{module}.')} is not imported"
 
 
 def main(words):
-    wanted = [it for it in words if it != "--list"] or list(crates())
     sources = Sources()
-    uncited, definitions = sources.uncited(), {name: it for name, it in sources.definitions.items() if it}
-    sums = [0] * 6
-    for crate in wanted:
-        by_import, by_text = long_lines(crate)
-        lists = {
-            "uncited": [f"{name}, line {it.line}" for name, it in uncited.items() if it.crate == crate],
-            "doubled": doubled(definitions, [crate]),
-            "long": by_text,
-            "long imports": by_import,
-        }
-        counts = [*map(len, lists.values()), sources.imports[crate], sources.in_code[crate]]
-        sums = [a + b for a, b in zip(sums, counts)]
-        tell(crate, counts)
-        for what, items in lists.items() if "--list" in words else ():
-            for item in items:
-                print(f"    {what}: {item}")
-    sums[1] = len(doubled(definitions, wanted))
-    tell("all", sums)
-    return 0
-
-
-def tell(crate, counts):
-    form = "{:18} uncited {:3}  doubled {:3}  long {:4}, imports {:4}  imports {:5}, in code {:4}"
-    print(form.format(crate, *counts), flush=True)
+    found = [[*sources.uncited(it), *sources.unimported(it)] for it in words or crates()]
+    for line in sum(found, []):
+        print(line)
+    failed = sum(map(len, found))
+    print(f"{found.count([])} passed, {failed} failed")
+    return int(failed > 0)
 
 
 if __name__ == "__main__":

@@ -67,7 +67,7 @@ def main(words):
     places = [(file, steps, at) for file, steps in sections for at in range(len(steps))]
     count = failed = 0
     with ThreadPoolExecutor(len(os.sched_getaffinity(0))) as pool:
-        replayed = pool.map(lambda place: replay(rows.probe_of(place[0], folder=folder), *place[1:]), places)
+        replayed = pool.map(lambda place: replay(rows.probe_of(folder=folder), *place[1:]), places)
         for (file, _, _), (replays, wrong) in zip(places, replayed):
             count, failed = count + replays, failed + len(wrong)
             for text in wrong[:3]:

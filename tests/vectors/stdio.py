@@ -19,6 +19,7 @@ from concurrent.futures import ThreadPoolExecutor
 
 sys.path.insert(0, os.path.join(os.path.dirname(os.path.abspath(__file__)), "..", "harness"))
 import rows  # noqa: E402
+from commands import preloaded  # noqa: E402
 from layers import stdio  # noqa: E402
 
 OPTIONS = {"max": "--max-message", "sent": "--max-sent", "queue": "--queue", "connections": "--connections",
@@ -84,8 +85,7 @@ def main(program, *named):
             if not run.said.keys() - OPTIONS.keys() - DEVICES.keys() - {"cut", "cut-again"}]
     failed = 0
     with tempfile.TemporaryDirectory(prefix="stdio-") as room, ThreadPoolExecutor(len(os.sched_getaffinity(0))) as pool:
-        shim = f"{room}/devices.so"
-        subprocess.run(["gcc", "-O2", "-shared", "-fPIC", "-o", shim, f"{rows.HARNESS}/devices.c"], check=True)
+        shim = preloaded("devices", room)
         for (file, _), wrong in zip(able, pool.map(lambda it: wrong_of(program, shim, it[1]), able)):
             if wrong:
                 failed += 1

@@ -1,7 +1,6 @@
 """Converts the rows of each layer for the probe that plays them, with a module for each folder of tests/vectors/rows.
 
-A module has `PROBE`, the crate of the program that plays the rows. Its function `steps(opening, rows)` returns a `Step`
-for each line that the probe reads.
+The function `steps(opening, rows)` of a module returns a `Step` for each line that the probe reads.
 """
 
 import re

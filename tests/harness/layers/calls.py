@@ -9,8 +9,6 @@
 
 from layers import serve
 
-PROBE = serve.PROBE
-
 LOOKS = serve.LOOKS
 
 steps = serve.steps

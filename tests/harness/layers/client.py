@@ -25,7 +25,6 @@ from layers import Step
 from layers.target import repeated
 from message_syntax import digits, spelled
 
-PROBE = "test_rows"
 LOOKS = ("look", "part")
 
 # Default limits of both programs, without that of outstanding requests.

@@ -12,8 +12,6 @@ import re
 
 from layers import Step, quoted
 
-PROBE = "test_rows"
-
 USUAL = {
     "max": 65_536, "sent": 65_536, "queue": 131_072, "pending": 16, "observers": 16, "outstanding": 16,
     "connections": 16, "dynamic": 0, "rep": 65_000, "turns": 1_000_000_000_000, "moment": 0, "versions": 0, "ids": 0,

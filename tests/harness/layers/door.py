@@ -36,8 +36,6 @@ from layers.stdio import LIMITS, settings
 from layers.target import repeated
 from message_syntax import bytes_of, spelled
 
-PROBE = "test_rows"
-
 HOW = ("waits", "polled", "answer")
 
 # Reads of a connection that is never ready for one.

@@ -15,8 +15,6 @@ import re
 from layers import Step, quoted
 from message_syntax import digits, spelled
 
-PROBE = "test_rows"
-
 LOOKS = ("look", "copied")
 
 

@@ -12,7 +12,6 @@ import re
 from layers import Step
 from layers.client import cancelled, event_of, reported_as, wanted_of, with_codes
 
-PROBE = "test_rows"
 LOOKS = ("look",)
 
 # More bytes than any stream has.

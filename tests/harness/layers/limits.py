@@ -7,8 +7,6 @@ name, the number and the text of the error. The result of `faults send` has the 
 
 from layers import Step, quoted
 
-PROBE = "test_rows"
-
 
 def steps(opening, rows):
     yield Step("= limits", "")

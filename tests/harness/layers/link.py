@@ -28,8 +28,6 @@ import re
 from layers import Step
 from message_syntax import digits
 
-PROBE = "test_rows"
-
 # Queries.
 LOOKS = ("look", "count", "token", "part")
 

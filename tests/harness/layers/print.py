@@ -7,8 +7,6 @@ from layers import Step
 from layers.target import repeated
 from message_syntax import spelled
 
-PROBE = "test_rows"
-
 
 def steps(opening, rows):
     yield Step("= print", "")

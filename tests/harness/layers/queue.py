@@ -7,8 +7,6 @@ the number of queued bytes, and these bytes.
 from layers import Step
 from message_syntax import spelled
 
-PROBE = "test_rows"
-
 LOOKS = ("look", "part")
 
 

@@ -8,7 +8,6 @@ from layers import Step
 from layers.client import event_of, opened, refused
 from message_syntax import spelled
 
-PROBE = "test_rows"
 LOOKS = ("look",)
 
 

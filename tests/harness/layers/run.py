@@ -22,8 +22,6 @@ from layers.client import wanted_of
 from layers.target import repeated
 from message_syntax import spelled
 
-PROBE = "test_rows"
-
 # Words before the arguments, with the writes of the connection.
 KINDS = {"deaf": "later", "slow": "one", "torn": "failed", "shut": "end", "full": "all", "mute": "all", "-": "all"}
 

@@ -11,8 +11,6 @@ from layers import Step
 from layers.target import repeated
 from message_syntax import bytes_of
 
-PROBE = "test_rows"
-
 
 def event_of(event):
     word, _, text = event.partition(" ")

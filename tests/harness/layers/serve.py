@@ -16,8 +16,6 @@ import re
 from layers import Step
 from message_syntax import CODES, spelled
 
-PROBE = "test_rows"
-
 LOOKS = ("status",)
 
 MEANWHILE = "meanwhile "

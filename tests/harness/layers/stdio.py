@@ -27,8 +27,6 @@ from dataclasses import dataclass, field
 from layers import Step
 from message_syntax import bytes_of, spelled
 
-PROBE = "test_rows"
-
 ALL = 2**64 - 1
 
 # Settings of the devices and of the configuration, in the order of the probe, with their defaults.

@@ -24,8 +24,6 @@ import re
 from layers import Step
 from message_syntax import OPTIONS, bytes_of, code_of, encoded, spelled, uint
 
-PROBE = "test_rows"
-
 # Queries.
 LOOKS = ("ask", "state", "notify", "path")
 

@@ -7,8 +7,6 @@ import re
 
 from layers import Step
 
-PROBE = "test_rows"
-
 
 def repeated(text):
     """Returns a text with its parts in braces repeated."""

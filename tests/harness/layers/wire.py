@@ -17,8 +17,6 @@ number, `=` and a value. `01 07 11=74696d65 -` is a GET of `time` with the token
 from layers import Step, quoted
 from message_syntax import bytes_of, digits, encoded, spelled
 
-PROBE = "test_rows"
-
 
 def reported_word(word):
     """Returns a word of a message with hex digits for its bytes."""

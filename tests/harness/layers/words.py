@@ -19,8 +19,6 @@ import re
 from layers import Step
 from layers.target import repeated, target_of
 
-PROBE = "test_rows"
-
 METHODS = ("Get", "Put", "Post", "Delete")
 NAMES = ("observe", "wait", "plain", "newline", "format", "accept", "option", "payload", "input", "output")
 

@@ -2,10 +2,10 @@
 
 import subprocess
 
-from c_examples import LIMIT, run, wait_for
+from c_examples import LIMIT, run
 from c_programs import compiled
 from checks import CSM, GREETING
-from peers import Server, free_port, started
+from peers import Server, accepts, free_port, soon, started
 from workspace import ROOT
 
 
@@ -19,7 +19,7 @@ def check_client(checks, clients, server, example):
                         (ran.returncode, [it[:5] for it in lines], len(set(lines))), (0, ["2.05 "] * 2, 2))
     port = free_port("127.0.0.1")
     with started([example, str(port), str(LIMIT)], stdout=subprocess.DEVNULL, stderr=subprocess.DEVNULL):
-        wait_for(port)
+        soon(lambda: accepts(port), seconds=LIMIT)
         observe("the example", port, "inside")
     with Server(server) as running:
         observe("the program", running.port, "time")

@@ -8,8 +8,9 @@ import tempfile
 import threading
 import time
 
+from commands import preloaded
 from explained import EXPLAIN, LIMIT, explain, faults, message
-from workspace import ROOT
+from peers import soon
 
 # Maximum growth of the memory between a small and a large record, and maximum in all, in KiB.
 MOST_GROWTH, MOST_MEMORY = 256, 8_192
@@ -36,10 +37,7 @@ class Explaining:
 
     def wait_for(self, lines):
         """Waits until this number of lines is printed, and returns true if they are."""
-        ends = time.monotonic() + LIMIT
-        while self.lines < lines and time.monotonic() < ends:
-            time.sleep(0.01)
-        return self.lines >= lines
+        return soon(lambda: self.lines >= lines)
 
     def memory(self):
         """Returns the largest resident memory of the program so far, in KiB."""
@@ -70,9 +68,7 @@ def check_failed_allocations(checks):
              "put /b - 00", "remove /b", "status 1", "in 7 00", "open", "drop 2"]
     wanted, given = explain(lines), "".join(line + "\n" for line in lines).encode()
     with tempfile.TemporaryDirectory() as folder:
-        shim = os.path.join(folder, "fail_malloc.so")
-        subprocess.run(["gcc", "-O2", "-shared", "-fPIC", "-o", shim,
-                        os.path.join(ROOT, "tests", "harness", "fail_malloc.c")], check=True)
+        shim = preloaded("fail_malloc", folder)
         failed = 0
         for number in range(1, 1_000):
             environment = {**os.environ, "LD_PRELOAD": shim, "REFUSE_ALLOCATION": str(number)}

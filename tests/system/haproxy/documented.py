@@ -8,12 +8,11 @@ import signal
 import subprocess
 import tempfile
 import textwrap
-import time
 
 from peers import LIMIT
 from peers import LOCAL as HOST
-from peers import free_port
-from proxies import SERVERS, connect, placed, places_for
+from peers import accepts, free_port, soon
+from proxies import SERVERS, placed, places_for
 from workspace import ROOT
 
 # Stands in for systemctl: starts the programs with the files that the commands wrote below @.
@@ -65,13 +64,6 @@ def prepare(folder, setting, front):
     os.symlink(f"{setting.folder}/server.pem", f"{folder}/coap.pem")
 
 
-def is_open(port):
-    """Returns true if a program accepts connections at the port."""
-    with contextlib.suppress(OSError), connect(port):
-        return True
-    return False
-
-
 def check_commands(checks, folder, commands, port, client):
     """Runs commands, which must succeed, below a folder with the stand-ins, and a client once a program accepts
     connections at the port. Returns what the client prints."""
@@ -81,11 +73,10 @@ def check_commands(checks, folder, commands, port, client):
         shell = subprocess.Popen(["bash", "-euc", commands], cwd=folder, env=own, stdin=subprocess.DEVNULL,
                                  stdout=log, stderr=log, process_group=0)
         try:
-            status, ends = shell.wait(LIMIT), time.monotonic() + LIMIT
+            status = shell.wait(LIMIT)
             log.seek(0)
             checks.same("the commands of docs/DEPLOYING.md", (status, log.read() if status else ""), (0, ""))
-            while not is_open(port) and time.monotonic() < ends:
-                time.sleep(0.02)
+            soon(lambda: accepts(port))
             how = {"stdin": subprocess.DEVNULL, "capture_output": True, "timeout": LIMIT, "text": True}
             return subprocess.run(["bash", "-c", client], **how).stdout
         finally:

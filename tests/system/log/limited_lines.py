@@ -16,7 +16,7 @@ from log_lines import (
     texts_of,
 )
 from message_syntax import encoded
-from peers import LIMIT, LOCAL
+from peers import LIMIT, LOCAL, soon
 
 
 def check_step_back(checks):
@@ -50,9 +50,7 @@ def check_rate(checks, count=100_000):
             socket.create_connection((LOCAL, port), LIMIT).close()
         time.sleep(2.5)
         # On a busy machine, the server accepts the last connections later.
-        ends = time.monotonic() + LIMIT
-        while sum(counts_in(name)) < 2 * count and time.monotonic() < ends:
-            time.sleep(0.5)
+        soon(lambda: sum(counts_in(name)) >= 2 * count)
         took, lines = time.monotonic() - began, lines_in(name)
         seconds = collections.Counter(found[1] for it in lines if (found := LINE.fullmatch(it)))
         checks.same("each line is one of a log", [it for it in lines if not LINE.fullmatch(it)], [])

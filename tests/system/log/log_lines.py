@@ -10,7 +10,7 @@ import tempfile
 import time
 
 from checks import CSM
-from peers import LIMIT, LOCAL, free_port, read_bytes, started
+from peers import LIMIT, LOCAL, accepts, free_port, read_bytes, soon, started
 
 SERVER, CLIENT = sys.argv[1:3]
 
@@ -43,18 +43,8 @@ def logging(*words, file=None, says=True, **how):
             if says:
                 listens(process, name)
             else:
-                wait_for(port)
+                soon(lambda: accepts(port))
             yield process, port, name
-
-
-def wait_for(port):
-    """Waits until a program that writes no line accepts connections at a port."""
-    ends = time.monotonic() + LIMIT
-    while time.monotonic() < ends:
-        with contextlib.suppress(OSError):
-            socket.create_connection((LOCAL, port), LIMIT).close()
-            return
-        time.sleep(0.02)
 
 
 def lines_in(name):
@@ -89,9 +79,7 @@ def ask(port, *messages):
 
 def settled(name, count, seconds=3):
     """Waits until a log has this number of lines, and returns its texts."""
-    ends = time.monotonic() + seconds
-    while time.monotonic() < ends and len(lines_in(name)) < count:
-        time.sleep(0.05)
+    soon(lambda: len(lines_in(name)) >= count, seconds=seconds)
     time.sleep(0.2)
     return texts_in(name)
 
@@ -107,10 +95,8 @@ def check_times(checks, name, error, began):
 
 def listens(process, name):
     """Waits until a server listens, and returns true, or until it ends."""
-    ends = time.monotonic() + LIMIT
-    while time.monotonic() < ends and process.poll() is None:
+    def says():
         with open(name, "rb") as log:
-            if b" listening on " in log.read():
-                return True
-        time.sleep(0.005)
-    return False
+            return b" listening on " in log.read()
+    soon(lambda: says() or process.poll() is not None)
+    return says() and process.poll() is None

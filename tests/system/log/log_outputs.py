@@ -8,7 +8,7 @@ import select
 import subprocess
 import tempfile
 
-import rows
+from commands import preloaded
 from log_lines import CLIENT, GET_ROOT, GREETING, QUIET, SERVER, SETTINGS, ask, listens, logging, texts_of
 from message_syntax import encoded
 from peers import LIMIT, LOCAL, Server, free_port, line_of, started
@@ -85,7 +85,7 @@ def check_memory(checks):
     """If an allocation of the log fails for a connection, the log says so, and the connection is served as before."""
     number, found, said = 0, 0, b"refused\n"
     with tempfile.TemporaryDirectory() as folder:
-        shim = rows.compiled_shim(folder)
+        shim = preloaded("fail_malloc", folder)
         while b"refused\n" in said:
             number += 1
             answer, said = served_without(number, shim, folder)

@@ -10,8 +10,7 @@ import tempfile
 
 from checks import CSM
 from manual_pages import USAGE, Manual, run
-from peers import LIMIT, Server, free_port, read_bytes, read_to_end
-from records import until
+from peers import LIMIT, Server, free_port, read_bytes, read_to_end, soon
 from workspace import ROOT
 
 SECTIONS = ["NAME", "SYNOPSIS", "DESCRIPTION", "EXIT STATUS", "EXAMPLES", "DIAGNOSTICS", "SEE ALSO", "STANDARDS",
@@ -180,7 +179,7 @@ def check_record(checks, shared, programs):
         checks.same("options of the header", options_in(lines[1]), named)
         other = os.path.join(folder, "registrations")
         with Server(os.path.join(programs, "coap-directory"), ["--record", other]):
-            until(lambda: pathlib.Path(other).read_text(encoding="utf-8").count("\n") > 1)
+            soon(lambda: pathlib.Path(other).read_text(encoding="utf-8").count("\n") > 1)
             line = pathlib.Path(other).read_text(encoding="utf-8").splitlines()[1]
         checks.same("options of the header of a directory", options_in(line), [*named, *["--application"] * 3])
         with open(path, "a", encoding="utf-8") as file:

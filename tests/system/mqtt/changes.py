@@ -6,8 +6,9 @@ from gateway_checks import BYTES
 from gateways import (
     BAD_OPTION, BAD_REQUEST, CHANGED, CONTENT, CREATED, DELETE, DELETED, ETAG, FORMAT, GET, IF_MATCH, IF_NONE_MATCH,
     LOCATION_PATH, NOT_ACCEPTABLE, NOT_ALLOWED, NOT_FOUND, OBSERVE, POST, PRECONDITION, PREFIX, PUT, SIZE1, SOON,
-    TOO_LARGE, Response, Setting, format_of, number, option_of, soon,
+    TOO_LARGE, Response, Setting, format_of, option_of, soon,
 )
+from message_syntax import uint
 
 
 def check_changes(checks, program):
@@ -86,7 +87,7 @@ def check_requests(checks, program):
         checks.same("If-None-Match of an absent resource", peer.code(PUT, f"{PREFIX}/b", [(IF_NONE_MATCH, b"")], b"5"),
                     CREATED)
         large = peer.ask(PUT, at, payload=bytes(65_001))
-        checks.same("a payload above the limit", (large.code, option_of(large, SIZE1)), (TOO_LARGE, number(65_000)))
+        checks.same("a payload above the limit", (large.code, option_of(large, SIZE1)), (TOO_LARGE, uint(65_000)))
         checks.same("DELETE of an absent resource", peer.code(DELETE, f"{PREFIX}/no"), DELETED)
         checks.same("a third resource", peer.code(PUT, f"{PREFIX}/c", payload=b"6"), CREATED)
         checks.same("a resource above the limit", peer.code(PUT, f"{PREFIX}/d", payload=b"7"), NOT_ACCEPTABLE)

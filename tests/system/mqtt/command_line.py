@@ -4,10 +4,10 @@ import os
 import re
 import socket
 
-from gateway_checks import accepts, run
+from gateway_checks import run
 from gateways import soon
 from option_checks import Program, check_program
-from peers import LOCAL, free_port, started
+from peers import LOCAL, accepts, free_port, started
 from workspace import ROOT
 
 BAD_OPTIONS = [

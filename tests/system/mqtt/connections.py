@@ -1,13 +1,13 @@
 """Brokers, gateways and texts that several checks of the connection to the broker need."""
 
+import struct
 import tempfile
 import threading
 import time
 
-from environment import write_number
-from gateway_checks import FakeSetting, run, write_file
+from commands import preloaded
+from gateway_checks import FakeSetting, write_file
 from gateways import LIMIT, Gateway
-from rows import HARNESS
 from scripted_broker import CONNECT, ScriptedBroker, packet
 
 # A CONNACK that the gateway is not authorised.
@@ -60,9 +60,13 @@ def alone(stack, program, broker, gateway=7, words=(), before=()):
     return started
 
 
+def write_number(name, number):
+    with open(name, "wb") as file:
+        file.write(struct.pack("=q", number))
+
+
 def stepped(folder, clock="CLOCK_STEP"):
     """Returns the words that run a program with a clock that the test sets, and the name of the file with its step."""
-    library, step = f"{folder}/clock_step.so", f"{folder}/step"
-    run(["gcc", "-O2", "-shared", "-fPIC", "-o", library, f"{HARNESS}/clock_step.c"], check=True)
+    library, step = preloaded("clock_step", folder), f"{folder}/step"
     write_number(step, 0)
     return ["sh", "-c", f'exec 9<{step}; exec env LD_PRELOAD={library} {clock}=9 "$@"', "sh"], step

@@ -1,6 +1,5 @@
 """Checks how a gateway ends, and the last lines of its log."""
 
-import contextlib
 import fcntl
 import re
 import signal
@@ -12,7 +11,7 @@ import time
 from gateways import (
     CONTENT, CREATED, GET, IF_MATCH, LIMIT, PREFIX, PUT, TIMEOUT, UNAVAILABLE, URI_PATH, Setting, encode, soon,
 )
-from peers import LOCAL
+from peers import LOCAL, accepts
 from signals import RELEASE, SETTINGS, end_of, signals
 
 
@@ -33,7 +32,7 @@ def check_end(checks, program):
         gateway.note_end()
         began = time.monotonic()
         gateway.process.terminate()
-        checks.same("it listens no longer", soon(lambda: listens(gateway.port), False), False)
+        checks.same("it listens no longer", soon(lambda: accepts(gateway.port), False), False)
         late = peer.send(PUT, f"{PREFIX}/b", payload=b"b")
         checks.same("a later write", peer.wait(late).code, UNAVAILABLE)
         setting.broker.process.send_signal(signal.SIGCONT)
@@ -77,7 +76,7 @@ def check_end_of_input(checks, program):
             checks.same("the gateway has read the end", other.code(GET, "time"), CONTENT)
         gateway.note_end()
         gateway.process.terminate()
-        checks.same("it listens no longer", soon(lambda: listens(gateway.port), False), False)
+        checks.same("it listens no longer", soon(lambda: accepts(gateway.port), False), False)
         checks.same("the connection ends", end_of(peer) is not None, True)
         found = [it.payload == large for token in tokens for it in peer.received[token]]
         checks.same("whole responses", (found, peer.left), (len(tokens) * [True], b""))
@@ -93,12 +92,6 @@ def taken_by_system(connection):
             if words[1].endswith(f":{there:04X}") and words[2].endswith(f":{here:04X}"):
                 return readable + int(words[4].split(":")[0], 16)
     return readable
-
-
-def listens(port):
-    with contextlib.suppress(ConnectionError), socket.create_connection((LOCAL, port), LIMIT):
-        return True
-    return False
 
 
 def check_log_end(checks, program):

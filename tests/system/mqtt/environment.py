@@ -7,30 +7,21 @@ import os
 import select
 import signal
 import socket
-import struct
 import subprocess
 import tempfile
 import time
 
-from gateway_checks import accepts, run, write_file
+from connections import stepped, write_number
+from gateway_checks import run, write_file
 from gateways import CHANGED, CONTENT, CREATED, GET, LIMIT, PREFIX, PUT, TIMEOUT, Gateway, Setting, soon
-from rows import HARNESS
-
-
-def write_number(name, number):
-    with open(name, "wb") as file:
-        file.write(struct.pack("=q", number))
+from peers import accepts
 
 
 def check_clock(checks, program):
     """Checks a gateway whose system clock is set back by an hour while a request waits, and then set forward."""
     with tempfile.TemporaryDirectory(prefix="coap-mqtt-") as folder:
-        library, step = f"{folder}/clock_step.so", f"{folder}/step"
-        line = ["gcc", "-O2", "-shared", "-fPIC", "-o", library, f"{HARNESS}/clock_step.c"]
-        checks.same("compiles", run(line).stderr, "")
-        write_number(step, 0)
-        stepped = ["sh", "-c", f'exec 9<{step}; exec env LD_PRELOAD={library} CLOCK_STEP=9 "$@"', "sh"]
-        with Setting(program, 1, before=stepped) as setting:
+        before, step = stepped(folder)
+        with Setting(program, 1, before=before) as setting:
             peer, = setting.peers()
             checks.same("a write", peer.code(PUT, f"{PREFIX}/a", payload=b"a"), CREATED)
             setting.broker.process.send_signal(signal.SIGSTOP)

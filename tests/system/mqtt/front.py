@@ -5,34 +5,17 @@ import tempfile
 
 from gateway_checks import BYTES
 from gateways import (
-    CHANGED, CONTENT, CREATED, ETAG, GET, OBSERVE, PREFIX, PUT, SOON, Broker, Gateway, Peer, format_of, option_of, soon,
+    CHANGED, CONTENT, CREATED, GET, OBSERVE, PREFIX, PUT, SOON, Broker, Gateway, GatewayFront, format_of, soon,
 )
 import proxies
 
 
-class Front(proxies.Front):
-    """HAProxy with TLS in front of two gateways."""
-
-    def __init__(self, program, broker, folder):
-        super().__init__(program, folder, ("one", "two"), [], proxies.QUICK_CHECKS)
-        self.broker, self.gateways = broker, {}
+class Front(GatewayFront):
+    """Gateways that can be killed and started again."""
 
     def start(self, name):
-        gateway = Gateway(self.server, self.broker, self.folder, list(self.ports).index(name) + 1)
-        gateway.port = self.ports[name]
-        self.gateways[name] = gateway
         self.running[name] = self.stack.enter_context(contextlib.ExitStack())
-        self.running[name].enter_context(gateway)
-
-    def reach(self, source):
-        """Returns a peer with this address, after its TLS handshake."""
-        return Peer(self.port, source, proxies.context(self.folder, proxies.Kind(source)))
-
-    def gateway_of(self, source):
-        """Returns the id of the gateway that serves a peer with this address: the first bytes of its ETags."""
-        with contextlib.suppress(OSError), self.reach(source) as peer:
-            return int.from_bytes(option_of(peer.ask(GET, f"{PREFIX}/probe"), ETAG), "big") >> 48
-        return None
+        self.running[name].enter_context(self.gateway(name, self.broker))
 
 
 def check_seen(checks, one, two, name, form, payload):
@@ -57,11 +40,7 @@ def check_front(checks, program):
         proxies.certify(folder)
         broker.publish(f"{PREFIX}/probe", b"probe")
         with Front(program, broker, folder) as front:
-            found = {}
-            for source in ("127.0.0.%d" % at for at in range(10, 200)):
-                found.setdefault(front.gateway_of(source), source)
-                if {1, 2} <= found.keys():
-                    break
+            found = front.sources()
             with front.reach(found[1]) as one, front.reach(found[2]) as two:
                 for name, form, payload in BYTES:
                     check_seen(checks, one, two, name, form, payload)

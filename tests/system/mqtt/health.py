@@ -8,7 +8,7 @@ from false_brokers import Relay
 from gateway_checks import FakeSetting
 from gateways import (
     CHANGED, CONTENT, DELETE, ETAG, GET, IF_MATCH, IF_NONE_MATCH, LIMIT, NOT_ACCEPTABLE, NOT_ALLOWED, NOT_FOUND,
-    OBSERVE, POST, PRECONDITION, PREFIX, PUT, UNAVAILABLE, Gateway, Peer, Setting, option_of, soon,
+    OBSERVE, POST, PRECONDITION, PREFIX, PUT, UNAVAILABLE, Gateway, GatewayFront, Setting, soon,
 )
 from peers import LOCAL
 import proxies
@@ -61,11 +61,11 @@ def check_health(checks, program):
             checks.same("another path", codes, [CONTENT, CONTENT, NOT_FOUND])
 
 
-class Front(proxies.Front):
-    """HAProxy with the backends of gateways, each of which has its own way to the broker."""
+class Front(GatewayFront):
+    """The backends of gateways, each of which has its own way to the broker."""
 
     def __init__(self, program, broker, folder):
-        super().__init__(program, folder, ("one", "two"), [], proxies.QUICK_CHECKS)
+        super().__init__(program, broker, folder)
         # The servers of coap-server are removed.
         self.places = proxies.places_for(folder, self.port, {}) + proxies.certificate_in(folder) + proxies.QUICK_CHECKS
         self.places += [("\nbackend coap\n", "\nbackend coap\n    disabled\n")]
@@ -73,14 +73,12 @@ class Front(proxies.Front):
         for name, port in self.ports.items():
             old, new = (f" {name} {LOCAL}:{it} maxconn" for it in (proxies.SERVERS[name], port))
             self.places += [(f"{old} {count}", f"{new} {count}") for count in (190, 64)]
-        self.broker, self.gateways, self.relays = broker, {}, {}
+        self.relays = {}
 
     def start(self, name):
         self.relays[name] = self.stack.enter_context(Relay(self.broker.port))
-        way, number = FakeSetting(self.relays[name].port, self.broker.folder), list(self.ports).index(name) + 1
-        gateway = Gateway(self.server, way, self.folder, number)
-        gateway.port = self.ports[name]
-        self.gateways[name] = self.stack.enter_context(gateway)
+        way = FakeSetting(self.relays[name].port, self.broker.folder)
+        self.stack.enter_context(self.gateway(name, way))
 
     def states(self):
         """Returns the states of the servers: of both in the backend of the healthy ones, then of both in the other."""
@@ -94,19 +92,7 @@ class Front(proxies.Front):
     def lose(self, name):
         """Cuts the way of a gateway to the broker."""
         self.relays[name].open.clear()
-        for it in self.relays[name].gateways:
-            with contextlib.suppress(OSError):
-                it.shutdown(socket.SHUT_RDWR)
-
-    def reach(self, source):
-        """Returns a peer with this address, after its TLS handshake."""
-        return Peer(self.port, source, proxies.context(self.folder, proxies.Kind(source)))
-
-    def gateway_of(self, source):
-        """Returns the id of the gateway that serves a peer with this address: the first bytes of its ETags."""
-        with contextlib.suppress(OSError), self.reach(source) as peer:
-            return int.from_bytes(option_of(peer.ask(GET, f"{PREFIX}/probe"), ETAG), "big") >> 48
-        return None
+        self.relays[name].cut()
 
 
 def check_front_health(checks, program):
@@ -114,11 +100,8 @@ def check_front_health(checks, program):
     with Setting(program, 0) as setting, contextlib.ExitStack() as stack:
         proxies.certify(setting.folder)
         setting.broker.publish(f"{PREFIX}/probe", b"0")
-        front, found = stack.enter_context(Front(program, setting.broker, setting.folder)), {}
-        for source in ("127.0.0.%d" % at for at in range(10, 200)):
-            found.setdefault(front.gateway_of(source), source)
-            if {1, 2} <= found.keys():
-                break
+        front = stack.enter_context(Front(program, setting.broker, setting.folder))
+        found = front.sources()
         one, two = (stack.enter_context(front.reach(found[it])) for it in (1, 2))
         path = f"{PREFIX}/probe"
         checks.same("writes at both gateways", [it.code(PUT, path, payload=b"1") for it in (one, two)], 2 * [CHANGED])

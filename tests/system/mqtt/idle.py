@@ -58,7 +58,7 @@ def check_idle(checks, program):
         checks.same("a peer without a CSM ends after 10 seconds", (ends[0], 10 <= took < 16), ((1, True), True))
         checks.same("one that is silent too, without a Release", ends[1], (1, True))
         checks.same("a silent peer with a CSM stays for its time", writer.get(f"{PREFIX}/a")[1], b"1")
-        checks.same("all peers stay without --idle", is_open(others[0]), True)
+        checks.same("all peers stay without --idle", stays_open(others[0]), True)
         checks.same("a write", soon(lambda: writer.code(PUT, f"{PREFIX}/a", payload=b"3"), CHANGED), CHANGED)
         checks.same("the observer is notified", observer.wait(token).payload, b"3")
 
@@ -78,7 +78,7 @@ def read_end(connection):
     return len(messages.split(found)[0]), found[:8].hex() == CSM
 
 
-def is_open(connection):
+def stays_open(connection):
     connection.setblocking(False)
     with contextlib.suppress(BlockingIOError):
         while piece := connection.recv(65536):

@@ -7,8 +7,7 @@ import shutil
 import socket
 import tempfile
 
-from connections import StrictBroker, alone, stepped
-from environment import write_number
+from connections import StrictBroker, alone, stepped, write_number
 from false_brokers import CONNACK, SUBACK, FalseBroker, Relay
 from gateway_checks import FakeSetting
 from gateways import CHANGED, CREATED, PREFIX, PUT, Gateway, Setting, soon

@@ -9,9 +9,9 @@ import signal
 import subprocess
 import tempfile
 
-from gateway_checks import accepts, run, write_file
+from gateway_checks import run, write_file
 from gateways import CONFIGURATION, PREFIX, Peer, read_file, soon
-from peers import LOCAL, free_port
+from peers import LOCAL, accepts, free_port
 import proxies
 from workspace import ROOT
 

@@ -7,11 +7,10 @@ import mmap
 import struct
 import tempfile
 
-from gateway_checks import run
+from commands import preloaded
 from gateways import (
     CHANGED, CONTENT, CREATED, GET, INTERNAL, PREFIX, PUT, TIMEOUT, UNAVAILABLE, Gateway, Setting, soon,
 )
-from rows import HARNESS
 
 # Gateways at once. Most of them wait.
 AT_ONCE = 12
@@ -140,9 +139,7 @@ def is_right(action, it, number):
 def refuse_each(checks, action, program):
     """Checks an attempt for each allocation of an action."""
     with Setting(program, 0) as setting:
-        library = f"{setting.folder}/refuse_memory.so"
-        line = ["gcc", "-std=c11", "-D_GNU_SOURCE", "-O2", "-Wall", "-Wextra", "-Werror", "-shared", "-fPIC"]
-        checks.same("compiles", run([*line, "-o", library, f"{HARNESS}/refuse_memory.c"]).stderr, "")
+        preloaded("refuse_memory", setting.folder)
         found = list(attempts(action, program, setting))
         stored = setting.broker.retained()
     for it in found:

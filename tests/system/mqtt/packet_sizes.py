@@ -4,9 +4,9 @@ import tempfile
 
 from gateway_checks import run
 from gateways import (
-    CHANGED, CREATED, DELETE, DELETED, GET, INTERNAL, NOT_FOUND, PREFIX, PUT, SIZE1, TOO_LARGE, Setting, number,
-    option_of,
+    CHANGED, CREATED, DELETE, DELETED, GET, INTERNAL, NOT_FOUND, PREFIX, PUT, SIZE1, TOO_LARGE, Setting, option_of,
 )
+from message_syntax import uint
 from rows import HARNESS
 from workspace import ROOT
 
@@ -54,7 +54,7 @@ def put_sizes(checks, peer, path, topic, limit, form, sizes):
     largest, accepted = room(topic, limit, form), []
     for size in sizes:
         response, fits = peer.ask(PUT, path, payload=bytes(size), form=form), publish_size(topic, size, form) <= limit
-        wanted = (CHANGED if accepted else CREATED, None) if fits else (TOO_LARGE, number(largest))
+        wanted = (CHANGED if accepted else CREATED, None) if fits else (TOO_LARGE, uint(largest))
         accepted += [size] if fits else []
         got = (response.code, option_of(response, SIZE1))
         checks.same(f"{size} bytes, format {form}", got, wanted)
@@ -72,7 +72,7 @@ def check_packet_limit(checks, program):
             put_sizes(checks, peer, f"{PREFIX}/x{form}", f"{PREFIX}/x{form}", 2000, form, range(1850, 2011))
         checks.same("an empty payload", peer.code(PUT, f"{PREFIX}/x", form=50), CREATED)
         large = peer.ask(PUT, f"{PREFIX}/x", payload=bytes(65_001))
-        wanted = number(room(f"{PREFIX}/x", 2000, None))
+        wanted = uint(room(f"{PREFIX}/x", 2000, None))
         checks.same("a payload above both limits", (large.code, option_of(large, SIZE1)), (TOO_LARGE, wanted))
         gateway = setting.gateways[0]
         checks.same("it has one connection", (gateway.log().count("resources"), gateway.process.poll()), (1, None))

@@ -6,12 +6,11 @@ import re
 import socket
 import tempfile
 
-from connections import StrictBroker, alone, stepped
-from environment import write_number
+from commands import preloaded
+from connections import StrictBroker, alone, stepped, write_number
 from false_brokers import Relay
-from gateway_checks import FakeSetting, run, write_file
+from gateway_checks import FakeSetting, write_file
 from gateways import CHANGED, CREATED, PREFIX, PUT, Gateway, Setting, soon
-from rows import HARNESS
 
 
 def check_pauses(checks, program):
@@ -67,8 +66,7 @@ def check_retreats_anew(checks, program):
 def check_unwatched(checks, program):
     """Checks a socket of the broker that cannot be watched: the log has the reason, and a later one is watched."""
     with Setting(program, 0) as setting, Relay(setting.broker.port) as relay:
-        library, error = f"{setting.folder}/fail_calls.so", f"{setting.folder}/error"
-        run(["gcc", "-O2", "-shared", "-fPIC", "-o", library, f"{HARNESS}/fail_calls.c"], check=True)
+        library, error = preloaded("fail_calls", setting.folder), f"{setting.folder}/error"
         write_file(error, "\0")
         before = ["sh", "-c", f'exec 9<{error}; exec env LD_PRELOAD={library} FAIL_EPOLL=9 "$@"', "sh"]
         to = FakeSetting(relay.port, setting.folder)

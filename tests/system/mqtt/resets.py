@@ -8,10 +8,10 @@ import struct
 import termios
 import time
 
+from commands import preloaded
 from gateway_checks import run
 from gateways import CONTENT, GET, PREFIX, PUT, Gateway, Setting, soon
 from peers import free_port, processor_time, reset
-from rows import HARNESS
 
 
 def check_reset(checks, program):
@@ -51,10 +51,7 @@ def unacknowledged(connection):
 def check_failing_calls(checks, program):
     """Checks a listening socket that cannot be made, and connections that cannot be accepted."""
     with Setting(program, 0) as setting:
-        library, errors = f"{setting.folder}/fail_calls.so", f"{setting.folder}/errors"
-        line = ["gcc", "-O2", "-Wall", "-Wextra", "-Werror", "-shared", "-fPIC", "-o", library]
-        built = run([*line, f"{HARNESS}/fail_calls.c"])
-        checks.same("compiles", built.stderr, "")
+        library, errors = preloaded("fail_calls", setting.folder), f"{setting.folder}/errors"
         port = free_port()
         done = run(["env", f"LD_PRELOAD={library}", "FAIL_IPV6=1", program, "-A", "::1", "-p", str(port)])
         checks.same("no socket", (done.returncode, done.stderr),

@@ -12,11 +12,11 @@ import time
 
 from greeted_peers import (
     ACCEPT, CONTENT_FORMAT, CUSTODY, DELETE, GET, IF_MATCH, IF_NONE_MATCH, OBSERVE, OSCORE, PEER_SETTINGS, PING, PUT,
-    URI_QUERY, requested,
+    URI_QUERY,
 )
-from message_syntax import encoded, uint
-from peers import LIMIT, Server, reset
-from records import frames_in, joined, record_in, replay, resident, until
+from message_syntax import encoded, requested, uint
+from peers import LIMIT, Server, reset, resident, soon
+from records import frames_in, joined, record_in, replay
 
 # The options of a server with many peers. Its queues are small, so that slow readers fill them, and their memory is in
 # use early in a run.
@@ -206,14 +206,14 @@ def crowded(checks, server, count, record=None):
 
     def watch(received):
         if received > len(memory) * 4 * count:
-            memory.append(resident(running))
+            memory.append(resident(running.process) // 1024)
 
     with Server(server, [*WORDS, *(["--record", record] if record else [])]) as running:
         peers = crowd(running, count, seed=1)
         talk(peers, watch)
         if record:
             checks.same("the record has the end of each connection",
-                        until(lambda: record_in(record).text.count(b"\ndrop ") == PEERS), True)
+                        soon(lambda: record_in(record).text.count(b"\ndrop ") == PEERS), True)
     name = "with a record" if record else "without a record"
     print(f"resident memory {name}: {memory} kB")
     early, late = memory[: len(memory) // 3], memory[len(memory) // 3 :]

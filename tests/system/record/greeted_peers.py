@@ -1,26 +1,19 @@
-"""The requests of peers, and a peer that is greeted."""
+"""Codes and options of the requests of peers, and a peer that is greeted."""
 
 import socket
 
 from checks import CSM, GREETING
-from message_syntax import encoded
 from peers import read_to_end
 
 # Codes and options.
 GET, PUT, DELETE, PING = 0x01, 0x03, 0x04, 0xE2
 IF_MATCH, CUSTODY, IF_NONE_MATCH, OBSERVE, OSCORE = 1, 2, 5, 6, 9
-URI_PATH, CONTENT_FORMAT, URI_QUERY, ACCEPT = 11, 12, 15, 17
+CONTENT_FORMAT, URI_QUERY, ACCEPT = 12, 15, 17
 
 PEER_SETTINGS, GET_ROOT = bytes.fromhex("00e1"), bytes.fromhex("010101")
 
 # The bytes that a server with default options sends for these two.
 GREETED = bytes.fromhex(CSM + "a14501" + GREETING)
-
-
-def requested(code, token, path, options=(), payload=b""):
-    """Returns a request for a path."""
-    named = [(URI_PATH, it.encode()) for it in path.split("/") if it]
-    return encoded(code, token, sorted([*options, *named], key=lambda it: it[0]), payload)
 
 
 def ask(server):

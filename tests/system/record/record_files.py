@@ -9,8 +9,8 @@ import time
 
 from greeted_peers import GET_ROOT, GREETED, PEER_SETTINGS, ask
 from option_table import recorded
-from peers import LIMIT, LOCAL, Server, free_port, line_of, read_bytes, started
-from records import Record, record_in, replay, until
+from peers import LIMIT, LOCAL, Server, free_port, line_of, read_bytes, soon, started
+from records import Record, record_in, replay
 
 
 def check_header(checks, server):
@@ -46,7 +46,7 @@ def check_header(checks, server):
                     (0, {1: done.stdout}, b""))
         began = int(time.time())
         with Server(server, ["--record", f"{folder}/listening"]):
-            until(lambda: os.path.getsize(f"{folder}/listening") > 0)
+            soon(lambda: os.path.getsize(f"{folder}/listening") > 0)
         moment, versions, ids = map(int, record_in(f"{folder}/listening").options()[-1].split(","))
         checks.same("a listening server begins at the time of its start", (abs(moment - began) < 5, versions, ids),
                     (True, moment * 65_536, 0))

@@ -7,11 +7,12 @@ import socket
 import subprocess
 import tempfile
 
-import rows
 from checks import CSM
-from greeted_peers import GET, GET_ROOT, GREETED, PEER_SETTINGS, PUT, requested
-from peers import LIMIT, LOCAL, Server, free_port, read_to_end, started
-from records import joined, record_in, replay, said_by, until
+from commands import preloaded
+from greeted_peers import GET, GET_ROOT, GREETED, PEER_SETTINGS, PUT
+from message_syntax import requested
+from peers import LIMIT, LOCAL, Server, free_port, read_to_end, soon, started
+from records import joined, record_in, replay, said_by
 
 
 def check_streams(checks, server):
@@ -51,13 +52,13 @@ def check_waiting(checks, server):
                 greeting = bytes.fromhex(CSM)
                 checks.same(f"{title}: the CSM", process.stdout.read(len(greeting)), greeting)
                 begun = [b"open", b"drain 1 %d" % len(greeting)]
-                until(lambda: record_in(name).lines == begun)
+                soon(lambda: record_in(name).lines == begun)
                 checks.same(f"{title}: the record before the first byte", (record_in(name).lines, record_in(name).torn),
                             (begun, b""))
                 process.stdin.write(PEER_SETTINGS)
                 process.stdin.flush()
                 begun.append(b"in 1 " + PEER_SETTINGS.hex().encode())
-                until(lambda: record_in(name).lines == begun)
+                soon(lambda: record_in(name).lines == begun)
                 checks.same(f"{title}: the record before more bytes", (record_in(name).lines, record_in(name).torn),
                             (begun, b""))
                 process.communicate(timeout=LIMIT)
@@ -75,7 +76,7 @@ def check_modes(checks, server):
                 peer.sendall(PEER_SETTINGS + GET_ROOT)
                 got, end = read_to_end(peer)
             checks.same("a silent connection", (got[: len(GREETED)], end), (GREETED, "the end"))
-            until(lambda: b"\ndrop 1\n" in record_in(name).text)
+            soon(lambda: b"\ndrop 1\n" in record_in(name).text)
             said = said_by(running)
         checks.same("a record and a log",
                     [it in said for it in ("connection 1 opened by ", " in: 0.01 GET", "connection 1 ended: ")],
@@ -93,7 +94,7 @@ def check_memory(checks, server):
     """Makes each allocation of a server with a record fail in turn. The record has all that its peer received."""
     stream = PEER_SETTINGS + GET_ROOT + requested(PUT, b"\x02", "a", (), b"x") + requested(GET, b"\x03", "a")
     with tempfile.TemporaryDirectory() as folder:
-        shim = rows.compiled_shim(folder)
+        shim = preloaded("fail_malloc", folder)
         for over in (over_streams, over_socket):
             failures = 0
             for count in itertools.count(1):

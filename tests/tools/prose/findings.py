@@ -3,7 +3,7 @@
 import re
 from dataclasses import dataclass
 
-from sentences import CODE, OPENING, blocks, length, numbered, sentences
+from sentences import OPENING, blocks, length, sentences
 
 MOST_WORDS = 25
 
