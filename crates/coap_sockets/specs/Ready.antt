@@ -1,12 +1,15 @@
 -- Defined by this project: the readiness of a socket, as far as it is known without a system call.
-use Rattle.std.specs.Prelude.{ℕ, ◌==◌, nat_lt, Bool, true, false, not, ◌||◌, ◌&&◌, Result, Ok, Err}
+use Rattle.std.specs.Prelude.{◌≡◌, ℕ, ◌==◌, nat_lt, Bool, true, false, not, ◌||◌, ◌&&◌, List, length, Option, Result}
+use Rattle.std.specs.Prelude.{Ok, Err}
+use Rattle.std.specs.Io.{ReadsAtMost, WritesAtMost}
+use Rattle.std.specs.Io.KnownBytes.{ReadConsumes, WriteAppends}
 use Rattle.std.specs.IoError.{error_kind}
 use Rattle.std.specs.declared.io.Error.{Error}
 use Rattle.mio.specs.declared.event.event.Event.{Event}
 use Rattle.mio.specs.Event.{is_readable, is_writable, is_error, is_read_closed, is_write_closed, is_priority}
 use Rattle.coap_io.specs.declared.wire.Got.{Got}
 use Rattle.coap_io.specs.declared.wire.Got.TheVariants.{Bytes, Later, End, Failed}
-use Rattle.coap_sockets.specs.IoResults.{is_would_block}
+use Rattle.coap_sockets.specs.IoResults.{is_would_block, read_got, write_got}
 use Rattle.coap_sockets.specs.declared.readiness.Readiness.{Readiness}
 
 -- The readiness of a new socket: a read and a write must be tried.
@@ -53,6 +56,24 @@ after_write r offered answer =
 -- The readiness after a write was deferred.
 abbrev pub deferred : Readiness → Readiness
 deferred r = record r { yields = false; has_yielded = true }
+
+-- Holds if a call acted as one read of a stream, into a buffer that has these bytes afterwards. One answer of the read
+-- decides the number of bytes that the buffer begins with and the stream lost, the readiness, and the result. `left`
+-- and `still_left` are the bytes left in the stream before and after the call, if it records them.
+pub data ActsAsOneRead (left still_left : Option (List ℕ)) (buffer : List ℕ) (before after : Readiness) (result : Got)
+    : Type 0 where
+  Answered : (answer : Result ℕ Error) → ReadsAtMost answer buffer → ReadConsumes left still_left answer buffer
+      → after ≡ after_read before (length buffer) answer → result ≡ read_got answer
+      → ActsAsOneRead left still_left buffer before after result
+
+-- Holds if a call acted as one write of these bytes to a stream. One answer of the write decides the number of bytes
+-- that the stream accepted, which are the first ones, the readiness, and the result. `held` and `now_held` are the
+-- bytes in the stream before and after the call, if it records them.
+pub data ActsAsOneWrite (held now_held : Option (List ℕ)) (bytes : List ℕ) (before after : Readiness) (result : Got)
+    : Type 0 where
+  Answered : (answer : Result ℕ Error) → WritesAtMost answer bytes → WriteAppends held now_held answer bytes
+      → after ≡ after_write before (length bytes) answer → result ≡ write_got answer
+      → ActsAsOneWrite held now_held bytes before after result
 
 -- A write of `offered` bytes with this result left some for lack of room.
 abbrev pub is_blocked_by : ℕ → Got → Bool

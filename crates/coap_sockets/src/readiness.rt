@@ -106,6 +106,9 @@ impl Readiness {
         // The system is not called if the socket has no input.
         ensures idle { self.old.readable ≡ false →
             (stream.new ≡ stream.old) × (self.new ≡ self.old) × (result ≡ Later) }
+        // Otherwise the call acts as one read, whose answer decides the readiness and the result.
+        ensures made { self.old.readable ≡ true →
+            spec.ActsAsOneRead (S.remaining stream.old) (S.remaining stream.new) buffer.new self.old self.new result }
     {
         if !self.readable {
             return Got::Later;
@@ -125,9 +128,10 @@ impl Readiness {
         // The system is not called either if the write is deferred. A write is deferred at most once.
         ensures later { self.old.writable ≡ true → self.old.yields ≡ true →
             (stream.new ≡ stream.old) × (self.new ≡ spec.deferred self.old) × (result ≡ Later) }
-        // A write that is made clears both flags of deferral.
+        // Otherwise the call acts as one write of these bytes, whose answer decides the readiness and the result. Both
+        // flags of deferral are then clear.
         ensures made { self.old.writable ≡ true → self.old.yields ≡ false →
-            (self.new.yields ≡ false) × (self.new.has_yielded ≡ false) }
+            spec.ActsAsOneWrite (S.contents stream.old) (S.contents stream.new) bytes.now self.old self.new result }
     {
         if !self.writable {
             return Got::Later;
