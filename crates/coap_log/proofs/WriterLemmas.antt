@@ -5,7 +5,7 @@ use Rattle.std.specs.List.{Contains}
 use Rattle.std.proofs.lemmas.List.Elements.{Contains-append_left, Contains-append_right, Contains-push}
 use Rattle.std.proofs.Math.Seq.{take-add}
 use Rattle.coap_io.specs.Prelude.{AddsBytes, AddsCalls}
-use Rattle.coap_io.proofs.streams.DeviceLemmas.{bytes_then, calls_then, no_calls}
+use Rattle.coap_io.proofs.streams.DeviceLemmas.{bytes_then, calls_then}
 use Rattle.coap_io.proofs.streams.WriteLemmas.{rest_of}
 use Rattle.coap_log.specs.Writers.{RefusedIf}
 
@@ -31,9 +31,6 @@ pushed_within bytes done count some more =
 -- Results of writes, one call after another.
 abbrev pub Adds : Option (List ℕ) → Option (List ℕ) → Type 0
 Adds a b = (counts : List ℕ) × AddsCalls a b counts
-
-pub adds_none : (a : Option (List ℕ)) → Adds a a
-adds_none a = ([], no_calls a)
 
 pub adds_one : (a b c : Option (List ℕ)) (count : ℕ) → Adds a b → AddsCalls b c (count ∷ []) → Adds a c
 adds_one a b c count first second = (first.0 ++ count ∷ [], calls_then a b c first.0 (count ∷ []) first.1 second)
