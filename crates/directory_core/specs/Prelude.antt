@@ -35,7 +35,7 @@ pub use Rattle.directory_core.specs.Changes.{limited, registered_attributes, upd
 pub use Rattle.directory_core.specs.Changes.{attributes_at_location}
 unfoldable pub use Rattle.directory_core.specs.Changes.{renewing, updating, looking_up}
 pub use Rattle.directory_core.specs.Replies.{DirectoryValue, new_directory, at_time}
-pub use Rattle.directory_core.specs.Replies.{Replies}
+pub use Rattle.directory_core.specs.Replies.{Replies, allocates, allocates_at}
 unfoldable pub use Rattle.directory_core.specs.Replies.{registration_reply, location_reply, lookup_reply, replying}
 unfoldable pub use Rattle.coap_wire.specs.Spelling.{spelling}
 pub use Rattle.directory_core.specs.Responses.{location_message, content_message, short_message, message_of, fits}

@@ -1,5 +1,5 @@
 -- The reply to a request, and the directory after it.
-use Rattle.std.specs.Prelude.{◌≡◌, ℕ, Bool, true, false, [], Some, Result, Ok, Err, ◌==◌, if◌then◌else◌}
+use Rattle.std.specs.Prelude.{◌≡◌, ℕ, Bool, true, false, [], Some, Result, Ok, Err, ◌==◌, ◌&&◌, if◌then◌else◌}
 use Rattle.coap_wire.specs.Message.{Message}
 use Rattle.coap_wire.specs.Codes.{get, post, delete}
 use Rattle.directory_registry.specs.Registrations.{RegistryValue, expired, removed, has_location}
@@ -98,11 +98,24 @@ reply_at d now limit m route.Elsewhere = (Refused refusal.Path, d)
 unfoldable pub replying : DirectoryValue → ℕ → ℕ → Message → Reply × DirectoryValue
 replying d now limit m = reply_at (at_time d now) now limit m (route_of (segments m.options))
 
--- A call returns the reply `expected.0` and leaves the directory `expected.1`. If allocation fails, it leaves `before`.
-abbrev pub Replies : DirectoryValue → Reply → DirectoryValue → Reply × DirectoryValue → Type 0
-Replies before (Created n) after expected = (expected.0 ≡ Created n) × (expected.1 ≡ after)
-Replies before Changed after expected = (expected.0 ≡ Changed) × (expected.1 ≡ after)
-Replies before Deleted after expected = (expected.0 ≡ Deleted) × (expected.1 ≡ after)
-Replies before Content after expected = (expected.0 ≡ Content) × (expected.1 ≡ after)
-Replies before (Refused e) after expected = (expected.0 ≡ Refused e) × (expected.1 ≡ after)
-Replies before OutOfMemory after expected = after ≡ before
+-- A request allocates memory at this resource: a POST at `/rd` or at a location, whose conditions hold.
+abbrev pub allocates_at : DirectoryValue → Message → Route → Bool
+allocates_at d m route.Registrations = m.code == post && conditions_hold true m.options
+allocates_at d m (route.Location number) = m.code == post && conditions_hold (has_location d.registry number) m.options
+allocates_at d m route.Endpoints = false
+allocates_at d m route.Resources = false
+allocates_at d m route.Elsewhere = false
+
+-- A request allocates memory at this time.
+abbrev pub allocates : DirectoryValue → ℕ → Message → Bool
+allocates d now m = allocates_at (at_time d now) m (route_of (segments m.options))
+
+-- A call returns the reply `expected.0` and leaves the directory `expected.1`. Allocation fails only if `allocates`.
+-- The directory is then `before`.
+abbrev pub Replies : (allocates : Bool) → DirectoryValue → Reply → DirectoryValue → Reply × DirectoryValue → Type 0
+Replies allocates before (Created n) after expected = (expected.0 ≡ Created n) × (expected.1 ≡ after)
+Replies allocates before Changed after expected = (expected.0 ≡ Changed) × (expected.1 ≡ after)
+Replies allocates before Deleted after expected = (expected.0 ≡ Deleted) × (expected.1 ≡ after)
+Replies allocates before Content after expected = (expected.0 ≡ Content) × (expected.1 ≡ after)
+Replies allocates before (Refused e) after expected = (expected.0 ≡ Refused e) × (expected.1 ≡ after)
+Replies allocates before OutOfMemory after expected = (allocates ≡ true) × (after ≡ before)

@@ -1,8 +1,9 @@
 //! `Directory`, which answers requests.
 
-ghost use Rattle.std.specs.Prelude.{◌≡◌, ◌<◌, ◌^◌, IfOk, option_map};
-ghost use Rattle.directory_core.specs.Prelude.{Replies, replying, registration_reply, location_reply};
-ghost use Rattle.directory_core.specs.Prelude.{lookup_reply, at_time, new_directory};
+ghost use Rattle.std.specs.Prelude.{◌≡◌, ◌<◌, ◌^◌, IfOk, false, option_map};
+ghost use Rattle.directory_core.specs.Prelude.{Replies, allocates, allocates_at, replying, registration_reply};
+ghost use Rattle.directory_core.specs.Prelude.{location_reply, lookup_reply, at_time, new_directory};
+ghost use Rattle.directory_core.specs.declared.route.Route.TheVariants as route;
 
 use crate::conditions::conditions_hold;
 use crate::refusal::Refusal;
@@ -62,7 +63,8 @@ impl Directory {
     #[tactic(auto, unfolding(crate::specs::Replies::replying))]
     pub fn reply(&mut self, now: u64, limit: usize, request: &MessageRef) -> Reply
         requires { now < 2 ^ 63 }
-        ensures { Replies (at_time self.old now) result self.new (replying self.old now limit request.now) }
+        ensures { Replies (allocates self.old now request.now) (at_time self.old now) result self.new
+            (replying self.old now limit request.now) }
     {
         self.registry.expire(now);
         match requested_route(request) {
@@ -78,7 +80,8 @@ impl Directory {
     #[tactic(auto, unfolding(crate::specs::Replies::registration_reply))]
     fn reply_to_registration(&mut self, now: u64, request: &MessageRef) -> Reply
         requires { now < 2 ^ 63 }
-        ensures { Replies self.old result self.new (registration_reply self.old now request.now) }
+        ensures { Replies (allocates_at self.old request.now route.Registrations) self.old result self.new
+            (registration_reply self.old now request.now) }
     {
         if request.code().byte() != 2 {
             return Reply::Refused(Refusal::Method);
@@ -96,7 +99,8 @@ impl Directory {
     #[tactic(auto, unfolding(crate::specs::Replies::location_reply))]
     fn reply_at_location(&mut self, now: u64, number: u64, request: &MessageRef) -> Reply
         requires { now < 2 ^ 63 }
-        ensures { Replies self.old result self.new (location_reply self.old now number request.now) }
+        ensures { Replies (allocates_at self.old request.now (route.Location number)) self.old result self.new
+            (location_reply self.old now number request.now) }
     {
         let code = request.code().byte();
         if code != 2 && code != 4 {
@@ -121,7 +125,7 @@ impl Directory {
     /// Answers a request at a lookup: of endpoints, or of resources.
     #[tactic(auto, unfolding(crate::specs::Replies::lookup_reply))]
     fn reply_to_lookup(&mut self, endpoints: bool, limit: usize, request: &MessageRef) -> Reply
-        ensures { Replies self.old result self.new (lookup_reply self.old endpoints limit request.now) }
+        ensures { Replies false self.old result self.new (lookup_reply self.old endpoints limit request.now) }
     {
         if request.code().byte() != 1 {
             return Reply::Refused(Refusal::Method);

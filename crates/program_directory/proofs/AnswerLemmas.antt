@@ -6,7 +6,7 @@ use Rattle.std.specs.Bool.{OnTrue, OnFalse}
 use Rattle.coap_wire.specs.Message.{Message}
 use Rattle.coap_wire.specs.Spelling.{spelling}
 use Rattle.coap_server_engine.specs.values.Exchanges.{Exchange, Requested}
-use Rattle.directory_core.specs.Replies.{DirectoryValue, new_directory, at_time, replying, Replies}
+use Rattle.directory_core.specs.Replies.{DirectoryValue, new_directory, at_time, allocates, replying, Replies}
 use Rattle.directory_core.specs.Endpoints.{ReachedDirectory, Begun, AfterRequest}
 use Rattle.directory_core.specs.Responses.{fits}
 use Rattle.directory_core.specs.declared.reply.Reply.{Reply}
@@ -45,18 +45,22 @@ other_appended items room message other old mid new false lacks is same written 
 pub begun : (d : DirectoryValue) (limit capacity : ℕ) → d ≡ new_directory limit capacity → Answers [] d
 begun d limit capacity is = subst (λ v. Answers [] v) (sym is) (NoRequests limit capacity)
 
--- One more request was answered, with the bytes that were written to the empty buffer.
-pub answered : (reads : List ℕ → Type 0) (earlier : List Exchange) (before after : DirectoryValue) (id : ℕ)
-    (limit room : ℕ) (m : Message) (token bytes old new : List ℕ) → token ≡ m.token → old ≡ [] → new ≡ old ++ bytes
-    → IsAnswered reads before limit room m token bytes after → Answers earlier before
-    → Answers (earlier ++ Requested id m limit new ∷ []) after
-answered reads earlier before after id limit room m token bytes old new is_token is_empty is_new is all =
+-- The request has this token, and the buffer was empty: so it has the response alone.
+pub response_alone : (reads : List ℕ → Type 0) (before after : DirectoryValue) (limit room : ℕ) (m : Message)
+    (token bytes old new : List ℕ) → token ≡ m.token → old ≡ [] → new ≡ old ++ bytes
+    → IsAnswered reads before limit room m token bytes after → IsAnswered reads before limit room m m.token new after
+response_alone reads before after limit room m token bytes old new is_token is_empty is_new is =
     let written : bytes ≡ new = sym (is_new ∙ ap (λ start. start ++ bytes) is_empty) in
-    let unread : IsAnswered (λ moments. Unit {0}) before limit room m token bytes after =
-    record { moment = is.moment; read = tt; reply = is.reply; replies = is.replies; written = is.written } in
-    let of_request = subst (λ t. IsAnswered (λ moments. Unit {0}) before limit room m t bytes after) is_token unread in
-    subst (λ response. Answers (earlier ++ Requested id m limit response ∷ []) after) written
-    (OneAnswered earlier before after id limit room m bytes all of_request)
+    subst (λ t. IsAnswered reads before limit room m t new after) is_token
+    (subst (λ response. IsAnswered reads before limit room m token response after) written is)
+
+-- One more request was answered.
+pub answered : (reads : List ℕ → Type 0) (earlier : List Exchange) (before after : DirectoryValue) (id : ℕ)
+    (limit room : ℕ) (m : Message) (response : List ℕ) → IsAnswered reads before limit room m m.token response after
+    → Answers earlier before → Answers (earlier ++ Requested id m limit response ∷ []) after
+answered reads earlier before after id limit room m response is all =
+    OneAnswered earlier before after id limit room m response all
+    (record { moment = is.moment; read = tt; reply = is.reply; replies = is.replies; written = is.written })
 
 -- ---- the directories of applications
 
@@ -71,7 +75,7 @@ after_reply d after now limit m is same = subst ReachedDirectory same (AfterRequ
 
 -- The directory after a reply is that of the definition, or allocation failed.
 reached_by : (d after : DirectoryValue) (now limit : ℕ) (m : Message) (r : Reply) → ReachedDirectory d
-    → Replies (at_time d now) r after (replying d now limit m) → ReachedDirectory after
+    → Replies (allocates d now m) (at_time d now) r after (replying d now limit m) → ReachedDirectory after
 unfolding replying
 reached_by d after now limit m (reply.Created n) is replies = after_reply d after now limit m is replies.1
 reached_by d after now limit m reply.Changed is replies = after_reply d after now limit m is replies.1
@@ -79,7 +83,7 @@ reached_by d after now limit m reply.Deleted is replies = after_reply d after no
 reached_by d after now limit m reply.Content is replies = after_reply d after now limit m is replies.1
 reached_by d after now limit m (reply.Refused e) is replies = after_reply d after now limit m is replies.1
 reached_by d after now limit m reply.OutOfMemory is replies =
-    subst ReachedDirectory (sym replies) (AfterRequest d now limit elsewhere is)
+    subst ReachedDirectory (sym replies.1) (AfterRequest d now limit elsewhere is)
 
 -- Requests reach the directory of an application.
 pub reached : (exchanges : List Exchange) (d : DirectoryValue) → Answers exchanges d → ReachedDirectory d

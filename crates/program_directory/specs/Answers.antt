@@ -5,7 +5,7 @@ use Rattle.coap_wire.specs.Spelling.{spelling}
 use Rattle.coap_conn.specs.declared.phase.Reply.{Reply as Queued}
 use Rattle.coap_model.specs.declared.answers.ResponseFault.{ResponseFault}
 use Rattle.coap_server_engine.specs.values.Exchanges.{Exchange, Requested, Given, Gone}
-use Rattle.directory_core.specs.Replies.{DirectoryValue, new_directory, at_time, replying, Replies}
+use Rattle.directory_core.specs.Replies.{DirectoryValue, new_directory, at_time, allocates, replying, Replies}
 use Rattle.directory_core.specs.Responses.{message_of, fits}
 use Rattle.directory_core.specs.declared.reply.Reply.{Reply}
 use Rattle.directory_core.specs.declared.reply.Reply.TheVariants.{OutOfMemory}
@@ -38,7 +38,7 @@ pub record IsAnswered (reads : List ℕ → Type 0) (before : DirectoryValue) (l
   pub moment : ℕ
   pub read : reads (moment ∷ [])
   pub reply : Reply
-  pub replies : Replies (at_time before (time_at moment)) reply after
+  pub replies : Replies (allocates before (time_at moment) request) (at_time before (time_at moment)) reply after
       (replying before (time_at moment) (results_within limit token) request)
   pub written : response ≡ response_of room token after.listing.text reply
 

@@ -2,6 +2,7 @@
 
 ghost use Rattle.std.specs.Prelude.{◌≡◌, ◌-◌, ℕ, List, [], ◌∷◌, ◌++◌, option_map, vec_len, vec_capacity};
 ghost use Rattle.coap_io.specs.streams.DeviceTraces.{AddsCalls};
+ghost use Rattle.coap_server_engine.specs.values.Exchanges.{AnswersMore, Requested};
 ghost use Rattle.directory_core.specs.Replies.{new_directory};
 ghost use Rattle.program_directory.specs.Answers.{Answers, IsAnswered, response_of};
 
@@ -72,11 +73,19 @@ impl<C: Clock + Drop> Application for DirectoryApplication<C> {
 
     fn request(
         &mut self,
-        _from: ConnId,
+        from: ConnId,
         request: &MessageRef<'_>,
         limit: usize,
         response: &mut Vec<u8>,
-    ) {
+    )
+        requires { response.old.items ≡ [] }
+        ensures follows { AnswersMore (λ exchanges. Answers exchanges self.old.directory)
+            (λ exchanges. Answers exchanges self.new.directory)
+            (Requested from request.now limit response.new.items ∷ []) }
+        ensures answered { IsAnswered (AddsCalls (C.moments self.old.clock) (C.moments self.new.clock))
+            self.old.directory limit (vec_capacity response.old - vec_len response.old) request.now request.now.token
+            response.new.items self.new.directory }
+    {
         let token = request.token().to_token();
         self.answer(request, &token, limit, response);
     }

@@ -150,7 +150,9 @@ fn serve_with<'a, R: Net + time::Clock + AllocGlobal, M: Monitor<SocketWire>>(
     directory: DirectoryApplication<RunClock<'a, R>>,
     monitor: &mut M,
 ) -> Result<(), IoFault>
-    ensures { IsErr result }
+    ensures ends { IsErr result }
+    // The monitor has passed on what it received, also in the last turn.
+    ensures passed { M.has_passed monitor.new }
 {
     let mut directory = directory;
     let mut clocks = Clocks {

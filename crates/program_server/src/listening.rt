@@ -106,7 +106,9 @@ fn serve_with<'a, R: Net + time::Clock + AllocGlobal, M: Monitor<SocketWire>>(
     idle: u32,
     monitor: &mut M,
 ) -> Result<(), IoFault>
-    ensures { IsErr result }
+    ensures ends { IsErr result }
+    // The monitor has passed on what it received, also in the last turn.
+    ensures passed { M.has_passed monitor.new }
 {
     let idle = if idle == 0 { None } else { Some(idle) };
     let mut clocks = Clocks {

@@ -67,6 +67,8 @@ fn serve_with<M: Monitor<()>>(
     monitor: &mut M,
 ) -> Result<Report, IoFault>
     requires { config.now.starts.ids + 1 < 2 ^ 64 }
+    // The monitor has passed on what it received, also after an error.
+    ensures passed { M.has_passed monitor.new }
 {
     let mut input = ReadSource::new(rt.reader());
     let mut output = WriteOutlet::new(io::writer(rt));

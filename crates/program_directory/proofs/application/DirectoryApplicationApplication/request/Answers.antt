@@ -1,11 +1,12 @@
 use Rattle.std.proofs.Common.{◌∙◌}
 use Rattle.coap_server_engine.specs.values.Exchanges.{AnswersMore}
-use Rattle.program_directory.proofs.AnswerLemmas.{answered}
+use Rattle.program_directory.proofs.AnswerLemmas.{answered, response_alone}
 use Rattle.program_directory.proofs.application.DirectoryApplicationApplication.request.Goals as goal
 
 pub returns : goal.returns
 unfolding AnswersMore
-returns g c = λ earlier all.
-    let is = c.answer.ensures.answered in
+returns g c =
+    let made = c.answer.ensures.answered in
     let token = c.to_token-token.ensures ∙ c.token.ensures in
-    answered _ earlier _ _ _ _ _ c.args.request.now _ is.0 _ _ token c.requires is.1 is.2 all
+    let is = response_alone _ _ _ _ _ c.args.request.now _ made.0 _ _ token c.requires made.1 made.2 in
+    record { follows = λ earlier all. answered _ earlier _ _ _ _ _ _ _ is all; answered = is }
