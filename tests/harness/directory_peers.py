@@ -32,24 +32,16 @@ def request(code, token, path, queries=(), payload=b"", content_format=None, mor
     return requested(code, token, path, options, payload)
 
 
-class Peer:
+class Peer(messages.Stream):
     """A connection to the directory. The CSMs were exchanged."""
 
     def __init__(self, server, size=None, tokens=0):
         """Announces a Max-Message-Size, if there is one. The first token is the number after `tokens`."""
-        self.socket, self.frames, self.kept, self.tokens = server.connect(), [], b"", tokens
+        super().__init__(server.connect())
+        self.tokens = tokens
         self.socket.settimeout(LIMIT)
         self.socket.sendall(request(CSM, b"", [], more=[] if size is None else [(MAX_MESSAGE_SIZE, uint(size))]))
         self.next()
-
-    def next(self):
-        """Returns code, token, options and payload of the next message."""
-        while not self.frames:
-            piece = self.socket.recv(65_536)
-            if not piece:
-                raise ConnectionError("the directory closed a connection")
-            self.frames, self.kept = messages.split(self.kept + piece)
-        return messages.parse(self.frames.pop(0))
 
     def send(self, code, path, *rest, **options):
         """Sends a request, and returns its token."""

@@ -112,6 +112,31 @@ def parse(frame):
     return code, token, options, rest[1:]
 
 
+class Ended(ConnectionError):
+    """A connection ended where a message should follow."""
+
+
+class Stream:
+    """A socket from which messages are read one by one. `left` has the bytes after the last one."""
+
+    def __init__(self, socket):
+        self.socket, self.left = socket, b""
+
+    def frame(self, most=65_536):
+        """Returns the next frame. Each read receives at most `most` bytes."""
+        while (size := length_of(self.left)) is None or size > len(self.left):
+            piece = self.socket.recv(most)
+            if not piece:
+                raise Ended("the connection ended")
+            self.left += piece
+        frame, self.left = self.left[:size], self.left[size:]
+        return frame
+
+    def next(self, most=65_536):
+        """Returns code, token, options and payload of the next message."""
+        return parse(self.frame(most))
+
+
 def tell_option(code, number, value):
     """Returns a description of an option in a message with this code."""
     if code >> 5 == 7:

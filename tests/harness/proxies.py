@@ -84,49 +84,42 @@ class NoPlace(Exception):
     """The text of a replacement is not in the configuration exactly once."""
 
 
-class Stream:
+class Stream(messages.Stream):
     """A connection that sends and receives messages."""
-
-    def __init__(self, connection):
-        self.connection = connection
-        self.left, self.frames = b"", []
 
     def __enter__(self):
         return self
 
     def __exit__(self, *_):
-        self.connection.close()
+        self.socket.close()
 
     def next(self):
         """Returns the code, token and payload of the next message, or None at a timeout or at the end of the
         connection."""
         with contextlib.suppress(OSError):
-            while not self.frames and (piece := self.connection.recv(65536)):
-                self.frames, self.left = messages.split(self.left + piece)
-        if not self.frames:
-            return None
-        code, token, _, payload = messages.parse(self.frames.pop(0))
-        return code, token, payload
+            code, token, _, payload = super().next()
+            return code, token, payload
+        return None
 
     def greet(self):
         """Sends an empty CSM, and returns true if the CSM of the server arrives."""
         with contextlib.suppress(OSError):
-            self.connection.sendall(PEER_SETTINGS)
+            self.socket.sendall(PEER_SETTINGS)
         return self.next() == (SETTINGS, b"", b"")
 
     def ask(self, stream):
         """Sends a message, and returns the next one received."""
         with contextlib.suppress(OSError):
-            self.connection.sendall(stream)
+            self.socket.sendall(stream)
         return self.next()
 
     def end(self, patience=LIMIT):
         """Returns the bytes received before the connection ends, and the seconds until then, or None if it does not
         end."""
         began, got = time.monotonic(), self.left
-        self.connection.settimeout(patience)
+        self.socket.settimeout(patience)
         try:
-            while piece := self.connection.recv(65536):
+            while piece := self.socket.recv(65536):
                 got += piece
         except TimeoutError:
             return got, None

@@ -61,11 +61,11 @@ class SystemClock:
         self.folder.cleanup()
 
 
-class Peer:
+class Peer(messages.Stream):
     """A connection to a server, on which requests with a token of one byte are sent."""
 
     def __init__(self, server):
-        self.socket, self.stream = server.connect(), b""
+        super().__init__(server.connect())
         self.socket.settimeout(LIMIT)
         self.socket.sendall(bytes.fromhex("00e1"))
         self.greeting = read_bytes(self.socket, len(CSM) // 2)
@@ -77,14 +77,10 @@ class Peer:
     def next(self):
         """Returns token and payload of the next response, and the time at which it arrived. At the end of the
         connection the token is None."""
-        while messages.length_of(self.stream) is None or len(self.stream) < messages.length_of(self.stream):
-            piece = self.socket.recv(65536)
-            if not piece:
-                return None, b"", time.monotonic()
-            self.stream += piece
-        size = messages.length_of(self.stream)
-        frame, self.stream = self.stream[:size], self.stream[size:]
-        _, token, _, payload = messages.parse(frame)
+        try:
+            _, token, _, payload = super().next()
+        except messages.Ended:
+            return None, b"", time.monotonic()
         return token[0], payload, time.monotonic()
 
     def __enter__(self):

@@ -44,42 +44,24 @@ GROWTH = 256 * 1024
 MOST = 65_000
 
 
-class Peer:
+class Peer(messages.Stream):
     """A connection that reads messages one by one. A narrow one has small socket buffers."""
 
     def __init__(self, address, is_narrow=False):
-        self.connection = socket.socket()
+        super().__init__(socket.socket())
         if is_narrow:
-            self.connection.setsockopt(socket.SOL_SOCKET, socket.SO_RCVBUF, ROOM)
-            self.connection.setsockopt(socket.SOL_SOCKET, socket.SO_SNDBUF, ROOM)
-            self.connection.setsockopt(socket.IPPROTO_TCP, socket.TCP_MAXSEG, PACKET)
-        self.connection.settimeout(LIMIT)
-        self.connection.connect(address)
-        self.left = b""
-        self.connection.sendall(SETTINGS)
+            self.socket.setsockopt(socket.SOL_SOCKET, socket.SO_RCVBUF, ROOM)
+            self.socket.setsockopt(socket.SOL_SOCKET, socket.SO_SNDBUF, ROOM)
+            self.socket.setsockopt(socket.IPPROTO_TCP, socket.TCP_MAXSEG, PACKET)
+        self.socket.settimeout(LIMIT)
+        self.socket.connect(address)
+        self.socket.sendall(SETTINGS)
 
     def __enter__(self):
         return self
 
     def __exit__(self, *_):
-        self.connection.close()
-
-    def front(self):
-        """Returns the first message of the bytes received, or None if it is incomplete."""
-        size = messages.length_of(self.left)
-        if size is None or size > len(self.left):
-            return None
-        frame, self.left = self.left[:size], self.left[size:]
-        return messages.parse(frame)
-
-    def next(self, most=65_536):
-        """Returns the next message. Each read receives at most `most` bytes."""
-        while (message := self.front()) is None:
-            piece = self.connection.recv(most)
-            if not piece:
-                raise ConnectionError("the connection ended")
-            self.left += piece
-        return message
+        self.socket.close()
 
     def answer(self, token):
         """Returns the next message with a token."""
@@ -90,7 +72,7 @@ class Peer:
 
     def ask(self, stream, token):
         """Sends a request and reads until its response arrives."""
-        self.connection.sendall(stream)
+        self.socket.sendall(stream)
         return self.answer(token)
 
 
@@ -106,7 +88,7 @@ def serving(checks, server, words):
 def observe_all(peer, paths, count):
     """Registers `count` observers, on one path after the other, and reads nothing."""
     for number in range(count):
-        peer.connection.sendall(requested(GET, number.to_bytes(2, "big"), paths[number % len(paths)], [(OBSERVE, b"")]))
+        peer.socket.sendall(requested(GET, number.to_bytes(2, "big"), paths[number % len(paths)], [(OBSERVE, b"")]))
 
 
 def put_often(peer, paths, first, last):
@@ -153,7 +135,7 @@ def check_puts(checks, server):
         peers = [stack.enter_context(Peer(address)) for _ in range(64)]
         # All first PUTs are sent before any response is read.
         for number, peer in enumerate(peers):
-            peer.connection.sendall(requested(PUT, b"\0", f"/{number}", payload=b"%d" % number))
+            peer.socket.sendall(requested(PUT, b"\0", f"/{number}", payload=b"%d" % number))
         first = [peer.answer(b"\0")[0] for peer in peers]
         checks.same("resources created up to the limit", [first.count(it) for it in (CREATED, NOT_ACCEPTABLE)],
                     [16, 48])
@@ -177,13 +159,13 @@ def ask_until_full(peer):
     """Requests the resource until the server accepts no more. Returns the number of requests, and the unsent rest of
     the last one."""
     count, rest = 0, b""
-    peer.connection.setblocking(False)
-    while select.select([], [peer.connection], [], 1)[1]:
+    peer.socket.setblocking(False)
+    while select.select([], [peer.socket], [], 1)[1]:
         if not rest:
             rest, count = requested(GET, count.to_bytes(4, "big"), "/big", [PADDING]), count + 1
         with contextlib.suppress(BlockingIOError):
-            rest = rest[peer.connection.send(rest) :]
-    peer.connection.settimeout(LIMIT)
+            rest = rest[peer.socket.send(rest) :]
+    peer.socket.settimeout(LIMIT)
     return count, rest
 
 
@@ -198,8 +180,8 @@ def read_slowly(slow, count, rest, beside):
         elif code == CONTENT:
             answers.append((int.from_bytes(token, "big"), payload))
             beside()
-        if rest and select.select([], [slow.connection], [], 0)[1]:
-            rest = rest[slow.connection.send(rest) :]
+        if rest and select.select([], [slow.socket], [], 0)[1]:
+            rest = rest[slow.socket.send(rest) :]
     return answers, moments
 
 
@@ -223,7 +205,7 @@ def check_slow(checks, server):
         with beside.peer, Peer(address, is_narrow=True) as slow:
             checks.same("the resource", beside.peer.ask(requested(PUT, b"\1", "/big", payload=BODY), b"\1")[0], CREATED)
             before = resident(process)
-            slow.connection.sendall(requested(GET, b"time", "/time", [(OBSERVE, b"")]))
+            slow.socket.sendall(requested(GET, b"time", "/time", [(OBSERVE, b"")]))
             count, rest = ask_until_full(slow)
             beside()
             after = resident(process)

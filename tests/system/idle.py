@@ -56,11 +56,12 @@ GET, PUT, OBSERVE, URI_QUERY = 0x01, 0x03, 6, 15
 BIG = 60_000
 
 
-class Peer:
+class Peer(messages.Stream):
     """A connection to a server, which keeps the bytes that it received."""
 
     def __init__(self, server, settings=SETTINGS, room=None):
-        self.socket, self.stream, self.ended = socket.socket(), b"", None
+        super().__init__(socket.socket())
+        self.ended = None
         if room:
             self.socket.setsockopt(socket.SOL_SOCKET, socket.SO_RCVBUF, room)
         self.socket.settimeout(20)
@@ -79,25 +80,17 @@ class Peer:
                     piece = self.socket.recv(65_536)
                 except ConnectionError:
                     piece = b""
-                self.stream += piece
+                self.left += piece
                 if not piece:
                     self.ended = time.monotonic()
         self.socket.settimeout(20)
         return self
 
     def next(self):
-        """Returns the next message after the server's CSM, and waits for it."""
-        while True:
-            size = messages.length_of(self.stream)
-            if size is not None and size <= len(self.stream):
-                frame, self.stream = self.stream[:size], self.stream[size:]
-                if frame != OWN:
-                    return frame
-                continue
-            piece = self.socket.recv(65_536)
-            if not piece:
-                raise ConnectionError("the connection ended")
-            self.stream += piece
+        """Returns the next frame after the server's CSM, and waits for it."""
+        while (frame := self.frame()) == OWN:
+            pass
+        return frame
 
 
 def sockets_of(server):
@@ -170,13 +163,13 @@ def check(checks, program):
         gone = [peer.look().ended is not None for peer in silent]
         checks.same("all silent peers are gone", gone.count(False), 0)
         checks.same("the server has closed their sockets", sockets_of(crowded), 2)
-        checks.same("silent peers with a CSM have a Release", {peer.stream for peer in silent[1::2]}, {OWN + RELEASE})
-        checks.same("silent peers without a CSM have none", {peer.stream for peer in silent[::2]}, {OWN})
+        checks.same("silent peers with a CSM have a Release", {peer.left for peer in silent[1::2]}, {OWN + RELEASE})
+        checks.same("silent peers without a CSM have none", {peer.left for peer in silent[::2]}, {OWN})
         checks.same("a peer that writes is released too", writer.look().ended is not None, True)
         checks.same("a peer that never reads is gone", sockets_of(mixed), 4)
-        got = [(peer.look().ended, peer.stream) for peer in answered]
+        got = [(peer.look().ended, peer.left) for peer in answered]
         checks.same("peers stay after a delayed response", got, [(None, OWN + DONE)] * len(DELAYS))
-        checks.same("a peer with a pending response stays", (delayed.look().ended, delayed.stream), (None, OWN))
+        checks.same("a peer with a pending response stays", (delayed.look().ended, delayed.left), (None, OWN))
         again = Peer(mixed)
         again.ask(PUT, 4, "/x", payload=b"2")
         checks.same("the representation is changed", again.next()[1], 0x44)

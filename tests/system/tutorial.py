@@ -24,7 +24,8 @@ import tempfile
 HERE = os.path.dirname(os.path.abspath(__file__))
 sys.path[:0] = [os.path.join(HERE, "..", it) for it in ("harness", "tools", "mutants")]
 from checks import Checks  # noqa: E402
-from examples import FENCED, TUTORIAL, read  # noqa: E402
+from commands import read  # noqa: E402
+from examples import FENCED, TUTORIAL  # noqa: E402
 from libraries import is_made  # noqa: E402
 from proof import rt_stamp  # noqa: E402
 from workspace import ROOT, crates  # noqa: E402
@@ -121,7 +122,7 @@ def main():
     os.sched_setaffinity(0, {random.choice(sorted(os.sched_getaffinity(0)))})
     checks = Checks()
     with tempfile.TemporaryDirectory(prefix="tutorial-") as home:
-        follow(checks, Reader(home), blocks(read(TUTORIAL)))
+        follow(checks, Reader(home), blocks(read(ROOT, TUTORIAL)))
     return checks.end()
 
 

@@ -34,6 +34,7 @@ import textwrap
 
 sys.path.insert(0, os.path.join(os.path.dirname(os.path.abspath(__file__)), "..", "harness"))
 from checks import SKIPPED  # noqa: E402
+from commands import read  # noqa: E402
 from workspace import ROOT, crates  # noqa: E402
 
 TESTS = "crates/test_proved/src/examples.rt"
@@ -142,16 +143,10 @@ SIGNED = [
 ]
 
 
-def read(path):
-    """Returns the text of a file of the repository."""
-    with open(f"{ROOT}/{path}", encoding="utf-8") as file:
-        return file.read()
-
-
 def continued(path):
     """Returns the text of a source. The last line of a function that continues in another one is the body of that
     one."""
-    text, named, passed = read(path), r"(?:^|,)\s*(\w+):", r"(?:^|,)\s*(?:&(?:mut )?)?(\w+)"
+    text, named, passed = read(ROOT, path), r"(?:^|,)\s*(\w+):", r"(?:^|,)\s*(?:&(?:mut )?)?(\w+)"
     bodies = {(name, *re.findall(named, parameters)): body for name, parameters, body in FUNCTION.findall(text)}
     return CALL.sub(lambda it: bodies.get((it[1], *re.findall(passed, it[2])), it[0]), text)
 
@@ -217,7 +212,7 @@ def tests():
 def comment_blocks():
     """Yields each block of code under `# Examples`, with its file."""
     for path in files("crates/*/src/**/*.rt"):
-        for comment in re.findall(r"(?:^[ \t]*//[/!].*\n)+", read(path), re.M):
+        for comment in re.findall(r"(?:^[ \t]*//[/!].*\n)+", read(ROOT, path), re.M):
             text = "".join(re.sub(r"^\s*//[/!] ?", "", line) + "\n" for line in comment.splitlines())
             _, _, examples = text.partition("# Examples\n")
             for _, _, code in FENCED.findall(re.split(r"^# ", examples, flags=re.M)[0]):
@@ -228,7 +223,7 @@ def document_blocks():
     """Yields each block of code marked `rust` in the documents except TUTORIAL, with its file and the source that it
     names."""
     for path in files("README.md", "docs/*.md"):
-        for language, source, code in FENCED.findall(read(path)):
+        for language, source, code in FENCED.findall(read(ROOT, path)):
             if language == "rust" and path != TUTORIAL:
                 yield path, source, plain(code)
 
@@ -237,15 +232,15 @@ def is_in(source, code, bodies):
     """Returns true if the source that a block names has its code. `bodies` are those of the tests."""
     if source.startswith(SIGNATURES):
         return are_signatures(code, "\n".join(map(read, files(*source.split()[1:]))))
-    is_whole_in = source in files(*SOURCES) and is_whole(code, read(source))
+    is_whole_in = source in files(*SOURCES) and is_whole(code, read(ROOT, source))
     return is_whole_in or source == TESTS and code in bodies.values()
 
 
 def c_blocks(path):
     """Returns the blocks in C of the document or of the manual."""
     if path == C_MANUAL:
-        return LITERAL.findall(read(path))
-    return [code for language, _, code in FENCED.findall(read(path)) if language == "c"]
+        return LITERAL.findall(read(ROOT, path))
+    return [code for language, _, code in FENCED.findall(read(ROOT, path)) if language == "c"]
 
 
 def c_errors(path):
@@ -286,13 +281,13 @@ def main():
             passed, failed = passed + (is_right(code, sample) == wanted), failed + (is_right(code, sample) != wanted)
             if is_right(code, sample) != wanted:
                 print(f"sample, {'right' if wanted else 'wrong'}:\n{textwrap.indent(code, '    ')}")
-    copied = [sorted(it.split()) for it in COPIED.findall(read("docs/EMBEDDING.md"))]
+    copied = [sorted(it.split()) for it in COPIED.findall(read(ROOT, "docs/EMBEDDING.md"))]
     server, client = ({it, *crates()[it]} for it in ("coap_serve", "coap_client"))
     wanted = [sorted(it.removeprefix("coap_") for it in one) for one in (server, client - server)]
     if copied != wanted:
         print(f"docs/EMBEDDING.md: the lines `server=` and `client=` have {copied}, and not {wanted}")
     passed, failed = passed + (copied == wanted), failed + (copied != wanted)
-    unlisted = set(LISTED.findall(read("docs/EMBEDDING.md"))) - set(read("crates.txt").splitlines())
+    unlisted = set(LISTED.findall(read(ROOT, "docs/EMBEDDING.md"))) - set(read(ROOT, "crates.txt").splitlines())
     passed, failed = passed + (not unlisted), failed + bool(unlisted)
     print("".join(f"docs/EMBEDDING.md: crates.txt has no line '{it}'\n" for it in unlisted), end="")
     for path in (C_DOCUMENT, C_MANUAL):

@@ -14,6 +14,7 @@ import re
 import sys
 
 sys.path.insert(0, os.path.join(os.path.dirname(os.path.abspath(__file__)), "..", "harness"))
+from commands import read  # noqa: E402
 from workspace import ROOT  # noqa: E402
 
 DOCUMENT = "docs/PERFORMANCE.md"
@@ -132,30 +133,24 @@ OF_TARGETS = {"TARGET", "TARGETS", "SHARES", "VARIES", "TIMES", "EACH", "TICK", 
 OTHERS = {("events.py", "TIMES")}
 
 
-def read(path):
-    """Returns the text of a file of the repository."""
-    with open(f"{ROOT}/{path}", encoding="utf-8") as file:
-        return file.read()
-
-
 def wrong(script, line, texts):
     """Yields each text of an entry that the script or the document does not have."""
-    if line not in read(f"bench/{script}"):
+    if line not in read(ROOT, f"bench/{script}"):
         yield f"bench/{script}: no '{line}'"
     patterns = {it: re.escape(it).replace("\\ N\\ ", r" [\d,.]+ ") for it in texts}
     yield from (f"{DOCUMENT}: no '{it}', for '{line}' of bench/{script}" for it, pattern in patterns.items()
-                if not re.search(pattern, read(DOCUMENT)))
+                if not re.search(pattern, read(ROOT, DOCUMENT)))
 
 
 def wrong_number(source, line, document, text):
     """Yields each text of an entry of NUMBERS that the source or the document does not have."""
-    yield from (f"{path}: no '{it}'" for path, it in ((source, line), (document, text)) if it not in read(path))
+    yield from (f"{path}: no '{it}'" for path, it in ((source, line), (document, text)) if it not in read(ROOT, path))
 
 
 def unlisted(script):
     """Returns the names of targets in a script that are in no entry."""
     listed = " ".join(line for other, line, _ in TARGETS if other == script)
-    found = [it for names in WORDS.findall(read(f"bench/{script}")) for it in names.split(", ")]
+    found = [it for names in WORDS.findall(read(ROOT, f"bench/{script}")) for it in names.split(", ")]
     return [it for it in found if OF_TARGETS.intersection(it.split("_")) and (script, it) not in OTHERS
             and not re.search(rf"\b{it}\b", listed)]
 

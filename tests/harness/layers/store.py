@@ -21,6 +21,7 @@ a version.
 
 import re
 
+import messages
 from layers import Step
 from message_syntax import OPTIONS, bytes_of, code_of, encoded, spelled, uint
 
@@ -165,19 +166,12 @@ def entries(words):
     return text
 
 
-def token_of(message):
-    """Returns the token of a message."""
-    form = message[0] >> 4
-    begin = 2 + (max(0, form - 12) if form < 15 else 4)
-    return message[begin : begin + (message[0] & 15)]
-
-
 def exchange(word, rest, wanted):
     """Returns the step of a row with whole messages."""
     moment, rest = rest.split(" ", 1) if word == "at" else ("0", rest)
     sent = bytes_of(rest)
     event = f"make {sent.hex()}" if word == "make" else f"ask {sent.hex()} {moment}"
-    return Step(event, bytes_of(wanted).hex(), lambda line: response_of(line, token_of(sent)))
+    return Step(event, bytes_of(wanted).hex(), lambda line: response_of(line, messages.parse(sent)[1]))
 
 
 def inside(word, rest, wanted):

@@ -21,15 +21,15 @@ def check_full(checks, setting):
         peers = [stack.enter_context(front.greeted("127.0.0.%d" % number)) for number in (2, 3, 4)]
         failed = front.counts("one")["chkfail"]
         late = stack.enter_context(front.peer(Kind("127.0.0.5")))
-        late.connection.sendall(PEER_SETTINGS)
+        late.socket.sendall(PEER_SETTINGS)
         checks.same("a peer that waits in vain for a connection", lasted(late.end(), QUEUED), (b"", True))
         checks.same("a full server is up", (front.status("one"), front.counts("one")["chkfail"]),
                     (("UP", "L7OK"), failed))
         late = stack.enter_context(front.peer(Kind("127.0.0.6")))
-        late.connection.sendall(PEER_SETTINGS)
+        late.socket.sendall(PEER_SETTINGS)
         checks.same("a peer that waits for a connection", late.is_silent(QUEUED / 4), True)
-        peers.pop().connection.close()
-        late.connection.settimeout(LIMIT)
+        peers.pop().socket.close()
+        late.socket.settimeout(LIMIT)
         checks.same("the peer is served after another one leaves", late.next(), (SETTINGS, b"", b""))
 
 

@@ -9,6 +9,7 @@ import subprocess
 import tempfile
 import textwrap
 
+from commands import read
 from peers import LIMIT
 from peers import LOCAL as HOST
 from peers import accepts, free_port, soon
@@ -33,21 +34,16 @@ esac
 """
 
 
-def read(path):
-    with open(f"{ROOT}/{path}", encoding="utf-8") as file:
-        return file.read()
-
-
 def commands_below(heading):
     """Returns the section of docs/DEPLOYING.md with this heading, and its first block of commands."""
-    section = read("docs/DEPLOYING.md").partition(f"\n## {heading}\n")[2]
+    section = read(ROOT, "docs/DEPLOYING.md").partition(f"\n## {heading}\n")[2]
     return section, textwrap.dedent(re.match(r"\n((?:    .*\n)+)", section)[1])
 
 
 def prepare(folder, setting, front):
     """Writes the files that `make install` installs, with this configuration of HAProxy, and the stand-ins, below a
     folder."""
-    unit = read("install/coap-server.service.in").replace("@PREFIX@", f"{folder}/usr/local")
+    unit = read(ROOT, "install/coap-server.service.in").replace("@PREFIX@", f"{folder}/usr/local")
     files = {
         "usr/local/share/doc/coap-server/examples/haproxy.cfg": front.replace("/etc/", f"{folder}/etc/"),
         "usr/local/lib/systemd/system/coap-server.service": unit.replace("/etc/", f"{folder}/etc/"),

@@ -80,6 +80,6 @@ def check_unread(checks, setting):
         got = stores.ask(b"\xe0" + (len(put) - 269).to_bytes(2, "big") + bytes([PUT]) + put)
         checks.same("a stored body", got, (CREATED, b"", b""))
         # The peer has the limits of the server, and the buffers on the path are too small for all responses.
-        peer.connection.sendall(OWN_SETTINGS + spelled(GET, b"g", "body") * 1000)
+        peer.socket.sendall(OWN_SETTINGS + spelled(GET, b"g", "body") * 1000)
         checks.same("the peer is connected at first", front.counts("coaps")["scur"], "1")
         checks.same("the peer is disconnected", front.wait(lambda: front.counts("coaps")["scur"] == "0"), True)

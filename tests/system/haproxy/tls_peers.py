@@ -14,7 +14,7 @@ def refused(front, kind):
     try:
         with front.peer(kind) as peer:
             with contextlib.suppress(OSError):
-                peer.connection.sendall(PEER_SETTINGS + spelled(GET, b"", ""))
+                peer.socket.sendall(PEER_SETTINGS + spelled(GET, b"", ""))
             got, seconds = peer.end()
             return got if seconds is not None else "no end"
     except ssl.SSLError as trouble:
@@ -26,10 +26,10 @@ def check_tls(checks, setting):
     with setting.front() as front:
         for version in (ssl.TLSVersion.TLSv1_2, ssl.TLSVersion.TLSv1_3):
             with front.peer(Kind(tls=version)) as peer:
-                got = peer.connection.version(), peer.connection.selected_alpn_protocol(), peer.greet()
+                got = peer.socket.version(), peer.socket.selected_alpn_protocol(), peer.greet()
             checks.same("a peer with %s" % version.name, got, (version.name.replace("_", "."), "coap", True))
         with front.peer(Kind(protocols=("h2", "coap"))) as peer:
-            got = peer.connection.selected_alpn_protocol(), peer.greet()
+            got = peer.socket.selected_alpn_protocol(), peer.greet()
         checks.same("a peer that offers coap too", got, ("coap", True))
         taken = front.taken()
         checks.same("a peer without ALPN", refused(front, Kind(protocols=None)), b"")
@@ -39,7 +39,7 @@ def check_tls(checks, setting):
             old = ssl.TLSVersion.TLSv1_1
         checks.same("a peer with TLS 1.1", refused(front, Kind(tls=old)), "TLSV1_ALERT_PROTOCOL_VERSION")
         with Stream(connect(front.port)) as plain:
-            plain.connection.sendall(PEER_SETTINGS + spelled(GET, b"q", "who"))
+            plain.socket.sendall(PEER_SETTINGS + spelled(GET, b"q", "who"))
             got, seconds = plain.end()
         checks.same("a peer without TLS", (OWN_SETTINGS in got, seconds is None), (False, False))
         checks.same("connections of these peers at the server", front.taken() - taken, 0)
@@ -50,7 +50,7 @@ def check_constrained(checks, setting):
     device = Kind(tls=ssl.TLSVersion.TLSv1_2, cipher="ECDHE-ECDSA-AES128-CCM8")
     with setting.front(places=[("    # ssl-default-bind-ciphers", "    ssl-default-bind-ciphers")]) as front:
         with front.peer(device) as peer:
-            checks.same("a device with a short tag", (peer.connection.cipher()[0], peer.greet()), (device.cipher, True))
+            checks.same("a device with a short tag", (peer.socket.cipher()[0], peer.greet()), (device.cipher, True))
         checks.same("a usual peer beside it", front.who()[0], "one")
         checks.same("libcoap beside it", libcoap(front, "/who"), (0, b"one\n", b""))
 
