@@ -28,6 +28,7 @@ static struct addrinfo *place_of(const char *text) {
 }
 
 int getaddrinfo(const char *name, const char *service, const struct addrinfo *hints, struct addrinfo **found) {
+    (void)name, (void)service, (void)hints;
     const char *names = getenv("NAMES");
     if (!names)
         return EAI_NONAME;
