@@ -79,7 +79,7 @@ NUMBERS = [
     ("crates/coap_wire/src/token.rt", "MAX_TOKEN: usize = 64;", COMPARISON, "| Token (bytes) | 64 | 64 |"),
     (TESTING, "| `make run` | 858 s |", "README.md", "sessions: 14 to 30 minutes"),
     (TESTING, "| `make run`, a slower machine | 1,322 s |", "README.md", "sessions: 14 to 30 minutes"),
-    (TESTING, "| `make test` | 1,933 s |", "README.md", "libcoap: half an hour to 2 hours"),
+    (TESTING, "| `make test` | 2,328 s |", "README.md", "libcoap: half an hour to 2 hours"),
     ("crates/coap_path/src/applications.rt", "MAX_ENTRIES: usize = 16;", COMPARISON, "for up to 16 prefixes"),
     (PROXY, "sc0_conn_cur gt 32 }", DEPLOYING, "| 32 connections of a source, and 100 in 10 s |"),
     (PROXY, "sc0_conn_rate gt 100 }", DEPLOYING, "| 32 connections of a source, and 100 in 10 s |"),
