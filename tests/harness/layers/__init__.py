@@ -13,13 +13,15 @@ class Step:
     """A line for the probe, the expected result, and a function that converts the line of the probe to the form of that
     result.
 
-    `meanwhile` has further steps, for the time between a failed allocation in this step and its repetition.
+    `meanwhile` has further steps, for the time between a failed allocation in this step and its repetition. `right` is
+    a line of the probe that was found to have the expected result, so that it is converted once.
     """
 
     event: str
     wanted: str
     reported: Callable[[str], str] = str.strip
     meanwhile: tuple = ()
+    right: str | None = None
 
 
 def quoted(line):

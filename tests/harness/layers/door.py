@@ -36,6 +36,9 @@ from layers.stdio import LIMITS, settings
 from layers.target import repeated
 from message_syntax import bytes_of, spelled
 
+# No row depends on those before it.
+ALONE = True
+
 HOW = ("waits", "polled", "answer")
 
 # Reads of a connection that is never ready for one.

@@ -22,6 +22,9 @@ from layers.client import wanted_of
 from layers.target import repeated
 from message_syntax import spelled
 
+# No row depends on those before it.
+ALONE = True
+
 # Words before the arguments, with the writes of the connection.
 KINDS = {"deaf": "later", "slow": "one", "torn": "failed", "shut": "end", "full": "all", "mute": "all", "-": "all"}
 

@@ -11,6 +11,9 @@ from layers import Step
 from layers.target import repeated
 from message_syntax import bytes_of
 
+# No row depends on those before it.
+ALONE = True
+
 
 def event_of(event):
     word, _, text = event.partition(" ")

@@ -27,6 +27,9 @@ from dataclasses import dataclass, field
 from layers import Step
 from message_syntax import bytes_of, spelled
 
+# No row depends on those before it.
+ALONE = True
+
 ALL = 2**64 - 1
 
 # Settings of the devices and of the configuration, in the order of the probe, with their defaults.

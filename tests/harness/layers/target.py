@@ -7,6 +7,9 @@ import re
 
 from layers import Step
 
+# No row depends on those before it.
+ALONE = True
+
 
 def repeated(text):
     """Returns a text with its parts in braces repeated."""

@@ -19,6 +19,9 @@ import re
 from layers import Step
 from layers.target import repeated, target_of
 
+# No row depends on those before it.
+ALONE = True
+
 METHODS = ("Get", "Put", "Post", "Delete")
 NAMES = ("observe", "wait", "plain", "newline", "format", "accept", "option", "payload", "input", "output")
 
