@@ -191,8 +191,8 @@ def again_of(file):
 
 
 def sections(file):
-    """Returns the steps of a file in lists that do not depend on each other: an opening, and the steps on its value or,
-    if the layer says `ALONE`, one of these."""
+    """Returns lists of steps that do not depend on each other. Each has an opening and the steps on its value. If the
+    layer says `ALONE`, each has one of these at most."""
     found, opening = [], None
     for step in file.steps():
         if step.event.startswith("= "):

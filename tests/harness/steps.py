@@ -108,7 +108,7 @@ STEPS = [
     *SOURCES,
     Step(["python3", "tests/harness/rows.py"], 4, 8, (PROBES,)),
     Step(["python3", "tests/harness/rows.py", "--by-rattle"], 4, 8, (BY_RATTLE,)),
-    Step(["python3", "tests/harness/rows.py", "--refuse"], 90, 160, (PROBES,)),
+    Step(["python3", "tests/harness/rows.py", "--refuse"], 40, 70, (PROBES,)),
     Step(["python3", "tests/vectors/segmentation.py"], 2, 2, (PROBES,)),
     Step(["python3", "tests/vectors/scripts.py", SERVER], 2, 1),
     Step(["python3", "tests/vectors/stdio.py", SERVER], 12, 12),
@@ -139,7 +139,7 @@ STEPS = [
     Step(["python3", "tests/system/manuals.py", *PROGRAMS], 15, 1),
     Step(["python3", "tests/system/install.py", *PROGRAMS], 4, 1, (ARCHIVE,)),
     Step(["python3", "tests/system/package.py", *PROGRAMS], 55, 46, (ARCHIVE, ROOT_RIGHTS)),
-    Step(["python3", "tests/system/memory.py", SERVER], 30, 105, (PROVED, PROBES)),
+    Step(["python3", "tests/system/memory.py", SERVER], 3, 5, (PROVED, PROBES)),
     Step(["bench/directory", "--quick"], 10, 27, (PROVED,)),
     Step(["bench/throughput", "--quick"], 17, 7, (PROVED,)),
 ]

@@ -1,4 +1,4 @@
-"""Counts the allocations of the built programs with valgrind, since no contract states them.
+"""Counts the allocations of the built programs, since no contract states them.
 
     tests/system/memory.py bin/coap-server
 
@@ -9,23 +9,29 @@ The checks are:
 - A queue requests as many bytes as it can hold.
 - No memory is lost.
 
-A script also allocates its events and the lines that need memory. Therefore two scripts are compared that have events
-of the same form and write the same number of lines of each kind. In one of them, the events are for a connection that
-does not exist.
+tests/harness/count_memory.c counts. Valgrind finds no error in the messages of all kinds and in a script. A script also
+allocates its events and the lines that need memory. Therefore two scripts are compared that have events of the same
+form and write the same number of lines of each kind. In one of them, the events are for a connection that does not
+exist.
 """
 
+import functools
 import os
-import re
 import subprocess
 import sys
 import tempfile
+from dataclasses import dataclass
 
 sys.path.insert(0, os.path.join(os.path.dirname(os.path.abspath(__file__)), "..", "harness"))
 from checks import CSM, GREETING, side_by_side  # noqa: E402
+from commands import preloaded  # noqa: E402
 from packages import require  # noqa: E402
 from workspace import ROOT  # noqa: E402
 
-PACKAGES = {"valgrind": "valgrind"}
+PACKAGES = {"gcc": "gcc", "valgrind": "valgrind"}
+
+# Folder of the library that counts.
+ROOM = tempfile.TemporaryDirectory()
 
 LISTING = b"</>;ct=0,</time>;ct=0;obs,</async>;ct=0".hex()
 
@@ -64,19 +70,37 @@ STORED_KINDS = [
 REPLACING = ("410302b161ff79" "510302b161ff7978", "014402" "014402")
 
 
+@functools.cache
+def shim():
+    """Compiles count_memory.c once, and returns its path."""
+    return preloaded("count_memory", ROOM.name)
+
+
+@dataclass
+class Counted:
+    """A run of a program: its status, its output, and its numbers of allocations, frees and requested bytes."""
+
+    status: int
+    written: bytes
+    made: int
+    freed: int
+    requested: int
+
+
+def run(command, stream):
+    """Runs a program, and counts its allocations."""
+    with tempfile.NamedTemporaryFile("r") as counts:
+        environment = {**os.environ, "LD_PRELOAD": shim(), "COUNT_MEMORY": counts.name}
+        ran = subprocess.run(command, input=stream, stdout=subprocess.PIPE, env=environment, timeout=300)
+        return Counted(ran.returncode, ran.stdout, *map(int, counts.read().split()))
+
+
 def watched(checks, name, command, stream, written):
-    """Runs the program with valgrind, checks its output, and returns its number of allocations."""
-    with tempfile.NamedTemporaryFile("r") as log:
-        line = ["valgrind", "--leak-check=full", "--show-leak-kinds=all", "--log-file=" + log.name] + command
-        ran = subprocess.run(line, input=stream, stdout=subprocess.PIPE, timeout=300)
-        said = log.read()
-    checks.same("output of %s" % name, (ran.returncode, ran.stdout == written), (0, True))
-    checks.same("no memory lost by %s" % name,
-                [it in said for it in ("no leaks are possible", "ERROR SUMMARY: 0 errors")], [True] * 2)
-    usage = re.search(r"total heap usage: ([\d,]+) allocs, ([\d,]+) frees", said)
-    allocated, freed = (int(it.replace(",", "")) for it in usage.groups())
-    checks.same("frees of %s" % name, freed, allocated)
-    return allocated
+    """Runs the program, checks its output, and returns its number of allocations."""
+    ran = run(command, stream)
+    checks.same("output of %s" % name, (ran.status, ran.written == written), (0, True))
+    checks.same("frees of %s" % name, ran.freed, ran.made)
+    return ran.made
 
 
 def counted(checks, name, command, sent, answered):
@@ -194,18 +218,10 @@ def putting(checks, server, storing):
     checks.same("allocations of 2,000 more puts", more(3000) - more(1000), 2000)
 
 
-def requested(command, stream):
-    """Returns the number of bytes that a program requests for its input."""
-    with tempfile.NamedTemporaryFile("r") as log:
-        line = ["valgrind", "--log-file=" + log.name] + command
-        subprocess.run(line, input=stream, stdout=subprocess.DEVNULL, timeout=300, check=True)
-        return int(re.search(r"([\d,]+) bytes allocated", log.read())[1].replace(",", ""))
-
-
 def raised(sizes):
     """Returns the number of bytes that the probe requests for a framer of 1,152 bytes that is raised to these sizes."""
     events = ["= frame 1152", *("raise %d" % it for it in sizes)]
-    return requested([PROBE], "".join(it + "\n" for it in events).encode())
+    return run([PROBE], "".join(it + "\n" for it in events).encode()).requested
 
 
 def raising(checks):
@@ -218,9 +234,30 @@ def raising(checks):
 def queueing(checks, server):
     """Checks that a connection requests as many bytes for its queue as the queue can hold."""
     sizes = [65_536, 65_537, 131_072, 4_194_304]
-    first, *others = (requested([server, "--queue", str(it), "--script", "-"], b"open\n") for it in sizes)
+    first, *others = (run([server, "--queue", str(it), "--script", "-"], b"open\n").requested for it in sizes)
     for size, bytes_of_all in zip(sizes[1:], others):
         checks.same("bytes of a queue of %d beside one of %d" % (size, sizes[0]), bytes_of_all - first, size - sizes[0])
+
+
+def under_valgrind(checks, name, command, stream, written):
+    """Checks that valgrind finds no error in a run, and no lost memory."""
+    kinds = ["--leak-check=full", "--show-leak-kinds=all", "--errors-for-leak-kinds=all"]
+    line = ["valgrind", "--error-exitcode=1", *kinds, *command]
+    ran = subprocess.run(line, input=stream, capture_output=True, timeout=300)
+    checks.same("valgrind on %s" % name, (ran.returncode, ran.stdout == written), (0, True))
+
+
+def all_kinds(before, kinds):
+    """Returns ten messages of each kind after a CSM, and the output for them."""
+    sent, answered = ("".join(it[at] * 10 for it in kinds) for at in (1, 2))
+    return bytes.fromhex("00e1" + before[0] + sent), bytes.fromhex(CSM + before[1] + answered)
+
+
+def all_events():
+    """Returns a script that drains bytes, registers an observer and changes its resource, and the lines for it."""
+    drains = ("in 1 01e201\ndrain 1\n" * 10, "in 1 3\nout 1 01e301\n" * 10)
+    parts = (STORED_BEFORE, OPENED, drains, arriving(1, OBSERVING[0][1], 1), changes("put", 10))
+    return ["".join(it).encode() for it in zip(*parts)]
 
 
 def runs(server):
@@ -237,11 +274,15 @@ def runs(server):
         (putting, server, storing),
         (raising,),
         (queueing, server),
+        (under_valgrind, "messages", [server, "--stdio"], *all_kinds(("", ""), KINDS)),
+        (under_valgrind, "messages with a resource", [*storing, "--stdio"], *all_kinds(STORED, STORED_KINDS)),
+        (under_valgrind, "a script", [*storing, "--script", "-"], *all_events()),
     ]
 
 
 def main(programs):
     require(PACKAGES)
+    shim()
     checks = side_by_side(runs(programs[0]), len(os.sched_getaffinity(0)))
     return checks.end("memory")
 
