@@ -4,7 +4,7 @@ use Rattle.std.proofs.Common.{append_assoc, arith, All}
 use Rattle.std.specs.Prelude.{◌==◌, if◌then◌else◌}
 use Rattle.std.proofs.lemmas.Bool.Decides.{nat_tests}
 use Rattle.coap_record.specs.Records.{byte_before}
-use Rattle.coap_record.specs.Prelude.{AcceptedCall, AreWholeLines, CanReplay, IsRecordOf, ReplaysTo, SaysNoEvent}
+use Rattle.coap_record.specs.Prelude.{AcceptedCall, AnnouncesNoSize, AreWholeLines, IsRecordOf, ReplaysTo, SaysNoEvent}
 use Rattle.coap_record.specs.Prelude.{ServerValue, Shows, append_known, newline, server_of, whole_lines_in, with_turns}
 use Rattle.coap_record.specs.Prelude.{writes_of}
 use Rattle.coap_record.proofs.ReplayLaws.{part_replays}
@@ -35,14 +35,14 @@ begins_with_lines (b ∷ bytes) =
 pub file_replays : (v : ServerValue) (header passed queued file lost text : List ℕ) (cs : List AcceptedCall)
     (failed full : Bool) (turns : ℕ) → SaysNoEvent header
     → IsRecordOf header failed full (append_known (Some passed) queued) cs
-    → passed ≡ file ++ lost → file ≡ header ++ text → Shows v cs → All CanReplay cs
+    → passed ≡ file ++ lost → file ≡ header ++ text → Shows v cs → All AnnouncesNoSize cs
     → (front later : List AcceptedCall) × (cs ≡ front ++ later)
     × ReplaysTo (with_turns turns v.config) (header ++ whole_lines_in text)
     (server_of (with_turns turns v.config) front) (writes_of v.config [] front)
-file_replays v header passed queued file lost text cs failed full turns silent is kept begins shows can =
+file_replays v header passed queued file lost text cs failed full turns silent is kept begins shows none =
     let lines = whole_lines_in text in
     let found = begins_with_lines text in
     let part = found.0 ++ (lost ++ queued) in
     let all : passed ++ queued ≡ header ++ (lines ++ part) =
     rw (kept, begins) (ap (λ t. ((header ++ t) ++ lost) ++ queued) found.1 ∙ simp append_assoc) in
-    part_replays v header (passed ++ queued) lines part cs failed full turns silent is all found.2 shows can
+    part_replays v header (passed ++ queued) lines part cs failed full turns silent is all found.2 shows none

@@ -1,9 +1,10 @@
 -- The text of a record, call by call.
 use Rattle.std.proofs.Common.{◌≡◌, ℕ, Bool, true, false, List, [], ◌∷◌, ◌++◌, Option, Some, None, Result, Ok, Err, refl}
-use Rattle.std.proofs.Common.{sym, ap, ◌∙◌, not, append_assoc, append-nil, is_err, ◌||◌, OnOk, OnErr}
-use Rattle.std.proofs.lemmas.List.Elements.{All-nil, All-push}
+use Rattle.std.proofs.Common.{All, sym, ap, ◌∙◌, not, append_assoc, append-nil, is_err, ◌||◌, OnOk, OnErr}
+use Rattle.std.proofs.lemmas.List.Elements.{All-cons, All-head, All-nil, All-push, All-tail}
 use Rattle.coap_record.specs.Prelude.{append_known, AcceptedCall, line_of, lines_of, HasLines, HasPart, IsRecordOf}
-use Rattle.coap_record.specs.Prelude.{IsInRange, WritesText, WritesUpTo, AddsBytes, WritesPart, HasFirstLines}
+use Rattle.coap_record.specs.Prelude.{IsInRange, IsRecordable, WritesText, WritesUpTo, AddsBytes, WritesPart}
+use Rattle.coap_record.specs.Prelude.{HasFirstLines}
 use Rattle.coap_record.proofs.WriteLemmas.{buffer_goes_on}
 
 -- The lines of calls and of one more call.
@@ -62,25 +63,31 @@ ended_goes_on header true full (Some text) ended cs more is = record {
   ranges = is.ranges;
 }
 
+-- The values of recordable calls are in range.
+pub are_in_range : (cs : List AcceptedCall) → All IsRecordable cs → All IsInRange cs
+are_in_range [] are = All-nil IsInRange
+are_in_range (c ∷ cs) are =
+    All-cons IsInRange c cs (All-head IsRecordable c cs are).0 (are_in_range cs (All-tail IsRecordable c cs are))
+
 -- ---- calls of a recorder
 
 -- No byte was written yet.
 pub record_begins : (failed full : Bool) (x : Option (List ℕ)) → x ≡ Some [] → IsRecordOf [] failed full x []
 unfolding lines_of
-record_begins false full x none = rw none (whole_or_full [] [] [] full (refl, All-nil IsInRange))
-record_begins true full x none = rw none (any_part [] [] [] false false (refl, All-nil IsInRange))
+record_begins false full x none = rw none (whole_or_full [] [] [] full (refl, All-nil IsRecordable))
+record_begins true full x none = rw none (any_part [] [] [] false false (refl, All-nil IsRecordable))
 
 -- The line of a call was written, or a part of it if the write failed.
 pub record_goes_on : {T E : Type 0} (header : List ℕ) (cs : List AcceptedCall) (c : AcceptedCall)
     (failed full fails is_full : Bool) (x y : Option (List ℕ)) (r : Result T E)
-    → (failed || full) ≡ false → IsInRange c → WritesText x y (line_of c) r → fails ≡ is_err r
+    → (failed || full) ≡ false → IsRecordable c → WritesText x y (line_of c) r → fails ≡ is_err r
     → IsRecordOf header failed full x cs → IsRecordOf header fails is_full y (cs ++ c ∷ [])
 record_goes_on header cs c true full fails is_full x y r works small wrote err is = absurd cc
 record_goes_on header cs c false true fails is_full x y r works small wrote err is = absurd cc
 record_goes_on header cs c false false fails is_full None y r works small wrote err is = absurd is
 record_goes_on header cs c false false fails is_full (Some text) y (Ok v) works small wrote err is =
     rw (err, wrote) (whole_or_full header (text ++ line_of c) (cs ++ c ∷ []) is_full
-    (sym (text_and_one header cs c text is.0), All-push IsInRange cs c is.1 small))
+    (sym (text_and_one header cs c text is.0), All-push IsRecordable cs c is.1 small))
 record_goes_on header cs c false false fails is_full (Some text) y (Err e) works small wrote err is =
     rw (err, wrote.4) (record {
       front = cs ++ c ∷ [];
@@ -88,7 +95,7 @@ record_goes_on header cs c false false fails is_full (Some text) y (Err e) works
       all = rw append-nil;
       missing = wrote.1;
       lines = text_and_one header cs c text is.0 ∙ rw (wrote.3, append_assoc);
-      ranges = All-push IsInRange cs c is.1 small;
+      ranges = All-push IsRecordable cs c is.1 small;
     })
 
 -- The record had ended before a further call.
@@ -144,7 +151,7 @@ header_part header text missing is = record {
   all = refl;
   missing = missing;
   lines = append-nil header ∙ is;
-  ranges = All-nil IsInRange;
+  ranges = All-nil IsRecordable;
 }
 
 -- A text was written after another one, or a part of it if the write failed.
@@ -157,7 +164,7 @@ header_written header text true full fails is_full x y r works all part err is =
 header_written header text false full fails is_full None y r works all part err is = absurd is
 header_written header text false full fails is_full (Some w) y (Ok v) works all part err is =
     rw (err, all) (whole_or_full (header ++ text) (w ++ text) [] is_full
-    (rw (header_alone header w full is, append-nil), All-nil IsInRange))
+    (rw (header_alone header w full is, append-nil), All-nil IsRecordable))
 header_written header text false full fails is_full (Some w) y (Err e) works all part err is =
     rw (err, part.4)
     (header_part (header ++ text) (w ++ part.0) part.1

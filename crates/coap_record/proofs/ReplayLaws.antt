@@ -33,11 +33,12 @@ use Rattle.coap_server_engine.proofs.world.CallLaws.{new_shows}
 use Rattle.coap_server_engine.proofs.values.ServerLemmas.{opens}
 use Rattle.coap_server_engine.proofs.scripting.ShownLemmas.{config_stays}
 use Rattle.coap_server_engine.proofs.scripting.ReplayLemmas.{all_turns_made, replayed_on}
-use Rattle.coap_record.specs.Prelude.{lines_of, events_said, all_events_said, IsInRange, CanReplay, HasLines}
+use Rattle.coap_record.specs.Prelude.{lines_of, events_said, all_events_said, AnnouncesNoSize, CanReplay, HasLines}
+use Rattle.coap_record.specs.Prelude.{IsRecordable}
 use Rattle.coap_record.specs.Prelude.{IsRecordOf, AreWholeLines, SaysNoEvent, with_turns, server_with_turns, write_in}
 use Rattle.coap_record.specs.Prelude.{writes_of, lines_of_writes, drains_of, ReplaysTo}
 use Rattle.coap_record.proofs.LineLaws.{lines_read_back}
-use Rattle.coap_record.proofs.RecordLemmas.{any_part}
+use Rattle.coap_record.proofs.RecordLemmas.{any_part, are_in_range}
 use Rattle.coap_record.proofs.PartLaws.{whole_lines}
 use Rattle.coap_wire.specs.Stream.{Stream}
 
@@ -148,11 +149,11 @@ call_replays v es (call.Released id) shows accepted can =
     let here = there v es id (λ s. release_refusal (link_of s.history) ≡ None) shows accepted in
     let none : released_refusal v id ≡ None = rw (here.session, here.holds) in
     rw none (shows_released v es id _ shows here.session here.holds, refl)
-call_replays v es (call.Announced id size) shows accepted can = absurd can
+call_replays v es (call.Announced id size) shows accepted can = absurd can.0
 call_replays v es (call.Responded id m) shows accepted can =
     let here = there v es id (λ s. response_refusal (link_of s.history) m ≡ None) shows accepted in
-    let none : responded_refusal v id (spelling m) ≡ None = rw (here.session, can, here.holds) in
-    rw (none, can) (shows_responded v es id m _ shows here.session here.holds, refl)
+    let none : responded_refusal v id (spelling m) ≡ None = rw (here.session, can.1, here.holds) in
+    rw (none, can.1) (shows_responded v es id m _ shows here.session here.holds, refl)
 call_replays v es (call.Dropped id) shows accepted can =
     let here = there v es id (λ s. Unit {0}) shows accepted in
     rw here.session (shows_dropped v es id _ shows here.session, refl)
@@ -274,15 +275,22 @@ drained_alike v before later id n turns shows can =
 
 -- ---- the text of a record
 
+-- The calls of a record can be made again, if they announce no message size.
+can_replay : (cs : List AcceptedCall) → All AnnouncesNoSize cs → All IsRecordable cs → All CanReplay cs
+can_replay [] none are = All-nil CanReplay
+can_replay (c ∷ cs) none are =
+    All-cons CanReplay c cs (All-head AnnouncesNoSize c cs none, (All-head IsRecordable c cs are).1)
+    (can_replay cs (All-tail AnnouncesNoSize c cs none) (All-tail IsRecordable c cs are))
+
 -- A header and lines of calls replay to the server that shows the calls.
 pub lines_replay : (v : ServerValue) (header text : List ℕ) (cs : List AcceptedCall) (turns : ℕ) → SaysNoEvent header
-    → HasLines header text cs → Shows v cs → All CanReplay cs
+    → HasLines header text cs → Shows v cs → All AnnouncesNoSize cs
     → ReplaysTo (with_turns turns v.config) text (server_with_turns turns v) (writes_of v.config [] cs)
-lines_replay v header text cs turns silent has shows can =
-    let on_new = replays_on_new v cs turns shows can in
+lines_replay v header text cs turns silent has shows none =
+    let on_new = replays_on_new v cs turns shows (can_replay cs none has.1) in
     record {
       events = all_events_said cs;
-      read = rw has.0 (silent (lines_of cs) (all_events_said cs) (lines_read_back cs has.1));
+      read = rw has.0 (silent (lines_of cs) (all_events_said cs) (lines_read_back cs (are_in_range cs has.1)));
       server = on_new.0;
       drains = on_new.1;
     }
@@ -295,11 +303,12 @@ all_front P (c ∷ cs) later all =
 
 -- A header and lines of the first calls.
 pub front_replays : (v : ServerValue) (header text : List ℕ) (cs front later : List AcceptedCall) (turns : ℕ)
-    → SaysNoEvent header → cs ≡ front ++ later → HasLines header text front → Shows v cs → All CanReplay cs
+    → SaysNoEvent header → cs ≡ front ++ later → HasLines header text front → Shows v cs
+    → All AnnouncesNoSize cs
     → ReplaysTo (with_turns turns v.config) text (server_of (with_turns turns v.config) front)
     (writes_of v.config [] front)
 unfolding server_of world_after
-front_replays v header text cs front later turns silent all has shows can =
+front_replays v header text cs front later turns silent all has shows none =
     let both : Shows v (front ++ later) = rw all at shows in
     let shown : Shows (server_of v.config front) front = record {
       accepted = (front_accepted v.config [] front later both.accepted).0;
@@ -308,26 +317,27 @@ front_replays v header text cs front later turns silent all has shows can =
       deadline = shows.deadline;
     } in
     lines_replay (server_of v.config front) header text front turns silent has shown
-    (all_front CanReplay front later (rw all at can))
+    (all_front AnnouncesNoSize front later (rw all at none))
 
 -- Whole lines of a record.
 pub part_replays : (v : ServerValue) (header text lines part : List ℕ) (cs : List AcceptedCall) (failed full : Bool)
     (turns : ℕ) → SaysNoEvent header → IsRecordOf header failed full (Some text) cs
-    → text ≡ header ++ (lines ++ part) → AreWholeLines lines → Shows v cs → All CanReplay cs
+    → text ≡ header ++ (lines ++ part) → AreWholeLines lines → Shows v cs
+    → All AnnouncesNoSize cs
     → (front later : List AcceptedCall) × (cs ≡ front ++ later) × ReplaysTo (with_turns turns v.config)
     (header ++ lines) (server_of (with_turns turns v.config) front) (writes_of v.config [] front)
-part_replays v header text lines part cs failed full turns silent is same whole shows can =
+part_replays v header text lines part cs failed full turns silent is same whole shows none =
     let has = any_part header text cs failed full is in
     let begins : header ++ lines_of has.front ≡ header ++ (lines ++ (part ++ has.missing)) =
     has.lines ∙ ap (λ t. t ++ has.missing) same ∙ simp append_assoc in
-    let found = whole_lines has.front has.ranges (part ++ has.missing) lines whole
+    let found = whole_lines has.front (are_in_range has.front has.ranges) (part ++ has.missing) lines whole
     (append_cancel_left header _ _ begins) in
     let all : cs ≡ found.0 ++ (found.1 ++ has.later) =
     has.all ∙ ap (λ ds. ds ++ has.later) found.2 ∙ append_assoc found.0 found.1 has.later in
-    let ranges = all_front IsInRange found.0 found.1 (subst (All IsInRange) found.2 has.ranges) in (
+    let ranges = all_front IsRecordable found.0 found.1 (subst (All IsRecordable) found.2 has.ranges) in (
       found.0,
       found.1 ++ has.later,
       all,
       front_replays v header _ cs found.0 (found.1 ++ has.later) turns silent all
-          (ap (λ t. header ++ t) found.3, ranges) shows can,
+          (ap (λ t. header ++ t) found.3, ranges) shows none,
     )

@@ -12,6 +12,7 @@ use Rattle.coap_record.specs.Prelude.{WritesPart, WritesText, WritesUpTo, QueueV
 use Rattle.coap_record.specs.Prelude.{path_bytes, flat_map, encoded_byte, slash, took_line, spelling, stored_line}
 use Rattle.coap_record.specs.Prelude.{format_word, bytes_text, respond_line}
 use Rattle.coap_wire.specs.Message.{Message}
+use Rattle.coap_wire.specs.Reading.{message_of, head_at, length_at, option_number_at, body_at, body_within}
 
 pub nothing_yet : (text : List ℕ) (x : Option (List ℕ)) → WritesUpTo text text x x
 nothing_yet text x = record { front = []; all = refl; written = bytes_none x }
@@ -193,3 +194,7 @@ some_encoded m bytes is = rw is (omega arith)
 pub none_encoded : 0 ∷ 0 ∷ [] ≡ spelling (record { code = 0; token = []; options = []; payload = [] })
 unfolding spelling
 none_encoded = refl
+
+pub none_read_back : message_of (0 ∷ 0 ∷ []) ≡ Ok (record { code = 0; token = []; options = []; payload = [] })
+unfolding message_of head_at length_at option_number_at body_at body_within
+none_read_back = refl

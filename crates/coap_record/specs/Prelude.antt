@@ -53,6 +53,7 @@ pub use Rattle.coap_record.specs.RecordLines.{respond_line}
 unfoldable pub use Rattle.coap_record.specs.RecordLines.{path_word, took_line, line_of, lines_of}
 unfoldable pub use Rattle.coap_record.specs.SaidEvents.{events_said, all_events_said, IsInRange}
 pub use Rattle.coap_record.specs.SaidEvents.{IsNumber, AreBytes, IsPathOfBytes, IsFormat, CanReplay}
+pub use Rattle.coap_record.specs.SaidEvents.{IsReadBack, IsRecordable, AnnouncesNoSize}
 pub use Rattle.coap_record.specs.Writes.{WritesText, WritesUpTo, room_in}
 pub use Rattle.coap_record.specs.Records.{HasLines, HasFirstLines, HasPart, IsRecordOf, AreWholeLines, SaysNoEvent}
 pub use Rattle.coap_record.specs.Records.{is_printable}

@@ -7,11 +7,12 @@ use Rattle.coap_script.specs.script.Script.{script_of}
 use Rattle.coap_script.specs.script.Words.{newline}
 use Rattle.coap_model.specs.world.Events.{AcceptedCall}
 use Rattle.coap_record.specs.RecordLines.{lines_of}
-use Rattle.coap_record.specs.SaidEvents.{IsInRange}
+use Rattle.coap_record.specs.SaidEvents.{IsRecordable}
 
--- The text is a header and the lines of these calls, whose values are in the range of their types.
+-- The text is a header and the lines of these calls. Their values are in the range of their types, and the encodings of
+-- responses are read back.
 abbrev pub HasLines : (header text : List ℕ) → List AcceptedCall → Type 0
-HasLines header text calls = (text ≡ header ++ lines_of calls) × All IsInRange calls
+HasLines header text calls = (text ≡ header ++ lines_of calls) × All IsRecordable calls
 
 -- The text is a header and the lines of the first of these calls. So its last line is whole.
 pub record HasFirstLines (header text : List ℕ) (calls : List AcceptedCall) : Type 0 where
@@ -20,7 +21,7 @@ pub record HasFirstLines (header text : List ℕ) (calls : List AcceptedCall) : 
   pub all : calls ≡ front ++ later
   pub lines : HasLines header text front
 
--- The text is a prefix of a header and the lines of the first of these calls, whose values are in range. The bytes of
+-- The text is a prefix of a header and the lines of the first of these calls, which are as in `HasLines`. The bytes of
 -- `missing` come after the text.
 pub record HasPart (header text : List ℕ) (calls : List AcceptedCall) : Type 0 where
   pub front : List AcceptedCall
@@ -28,7 +29,7 @@ pub record HasPart (header text : List ℕ) (calls : List AcceptedCall) : Type 0
   pub all : calls ≡ front ++ later
   pub missing : List ℕ
   pub lines : header ++ lines_of front ≡ text ++ missing
-  pub ranges : All IsInRange front
+  pub ranges : All IsRecordable front
 
 -- The record with this header has this text after these calls. Holds only of an outlet that records its text.
 -- - A record that has not ended has the lines of all calls.

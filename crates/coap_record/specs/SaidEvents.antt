@@ -66,9 +66,20 @@ IsInRange (Announced id size) = IsNumber id × IsNumber size
 IsInRange (Responded id m) = IsNumber id × (AreBytes (spelling m) × (1 ≤ length (spelling m)))
 IsInRange (Dropped id) = IsNumber id
 
--- A script can make this call again. Only an announced message size has no event. The encoding of a response of the
--- application must be read back as the response.
+-- The encoding of a response of the application is read back as the response.
+abbrev pub IsReadBack : AcceptedCall → Type 0
+IsReadBack (Responded id m) = message_of (spelling m) ≡ Ok m
+IsReadBack c = Unit {0}
+
+-- The values of a call are in range, and the encoding of a response is read back.
+abbrev pub IsRecordable : AcceptedCall → Type 0
+IsRecordable c = IsInRange c × IsReadBack c
+
+-- The call announces no message size. So a script has an event for it.
+abbrev pub AnnouncesNoSize : AcceptedCall → Type 0
+AnnouncesNoSize (Announced id size) = ⊥
+AnnouncesNoSize c = Unit {0}
+
+-- A script can make this call again: it has an event for the call, and the encoding of a response is read back.
 abbrev pub CanReplay : AcceptedCall → Type 0
-CanReplay (Announced id size) = ⊥
-CanReplay (Responded id m) = message_of (spelling m) ≡ Ok m
-CanReplay c = Unit {0}
+CanReplay c = AnnouncesNoSize c × IsReadBack c

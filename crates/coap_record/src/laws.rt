@@ -2,7 +2,8 @@
 
 ghost use Rattle.std.specs.Prelude.{◌≡◌, ℕ, Bool, All, List, [], ◌∷◌, ◌++◌, Some, Ok, take, true, false};
 ghost use Rattle.coap_record.specs.Prelude.{AcceptedCall, Wrote, ScriptEventValue, Drain, script_of, line_of, lines_of};
-ghost use Rattle.coap_record.specs.Prelude.{events_said, all_events_said, IsInRange, CanReplay, is_printable, newline};
+ghost use Rattle.coap_record.specs.Prelude.{events_said, all_events_said, IsInRange, CanReplay, AnnouncesNoSize};
+ghost use Rattle.coap_record.specs.Prelude.{is_printable, newline};
 ghost use Rattle.coap_record.specs.Prelude.{ServerValue, Shows, new_server, replayed, event_ran, out_line, waiting_of};
 ghost use Rattle.coap_record.specs.Prelude.{side_of, world_after, list_all, server_of, IsRecordOf, SaysNoEvent};
 ghost use Rattle.coap_record.specs.Prelude.{with_turns, server_with_turns, writes_of, ReplaysTo, AreWholeLines};
@@ -33,7 +34,8 @@ pub fn lines_are_read_back()
 /// - The line of a `drain` has the bytes that the recorded server wrote: the first `n` bytes of those queued. So each
 ///   connection is sent the same bytes, in the same order (`drained`).
 ///
-/// The limit of turns may be another one. No call may announce a message size, since a script cannot.
+/// The limit of turns may be another one. No call may announce a message size, since a script cannot. The encoding of a
+/// response of the application must be read back as the response (`CanReplay`).
 pub fn a_record_replays()
     ensures server { (v : ServerValue) (calls : List AcceptedCall) (turns : ℕ) → Shows v calls → All CanReplay calls →
         (replayed (new_server (with_turns turns v.config)) (all_events_said calls)).server ≡ server_with_turns turns v }
@@ -47,8 +49,8 @@ pub fn a_record_replays()
 /// States that the text of a record replays the run of which it is the record.
 ///
 /// The calls are those of a run: the server after the run shows them (`Shows`), and a `Recorder` received them after
-/// its header (`follows`). The header has comments only. Each call must be one that a script can make again
-/// (`CanReplay`).
+/// its header (`follows`). The header has comments only. No call may announce a message size, since a script cannot. A
+/// response of the application is read back from its line, since the recorder has parsed it (`IsRecordable`).
 ///
 /// - The text of a record that has not ended is a script. Its replay leaves the server after the run, and its `drain`
 ///   lines have the bytes that the run wrote, in order (`whole`).
@@ -58,17 +60,20 @@ pub fn a_record_replays()
 /// The replay runs on a new server with the configuration of the recorded one. Its limit of turns may be another one.
 pub fn a_recorded_run_replays()
     ensures whole { (v : ServerValue) (header text : List ℕ) (calls : List AcceptedCall) (turns : ℕ) →
-        SaysNoEvent header → IsRecordOf header false false (Some text) calls → Shows v calls → All CanReplay calls →
+        SaysNoEvent header → IsRecordOf header false false (Some text) calls → Shows v calls →
+        All AnnouncesNoSize calls →
         ReplaysTo (with_turns turns v.config) text (server_with_turns turns v) (writes_of v.config [] calls) }
     ensures limit { (v : ServerValue) (header text : List ℕ) (calls : List AcceptedCall) (turns : ℕ) →
-        SaysNoEvent header → IsRecordOf header false true (Some text) calls → Shows v calls → All CanReplay calls →
+        SaysNoEvent header → IsRecordOf header false true (Some text) calls → Shows v calls →
+        All AnnouncesNoSize calls →
         (front later : List AcceptedCall) × (calls ≡ front ++ later)
         × ReplaysTo (with_turns turns v.config) text (server_of (with_turns turns v.config) front)
         (writes_of v.config [] front) }
     ensures lines { (v : ServerValue) (header text lines part : List ℕ) (calls : List AcceptedCall)
         (has_failed is_full : Bool) (turns : ℕ) →
         SaysNoEvent header → IsRecordOf header has_failed is_full (Some text) calls →
-        text ≡ header ++ (lines ++ part) → AreWholeLines lines → Shows v calls → All CanReplay calls →
+        text ≡ header ++ (lines ++ part) → AreWholeLines lines → Shows v calls →
+        All AnnouncesNoSize calls →
         (front later : List AcceptedCall) × (calls ≡ front ++ later)
         × ReplaysTo (with_turns turns v.config) (header ++ lines) (server_of (with_turns turns v.config) front)
         (writes_of v.config [] front) }
@@ -84,7 +89,7 @@ pub fn a_kept_file_replays<O: Outlet + Drop>(recorder: &Recorder<NotedOutlet<O>>
     ensures { (v : ServerValue) (header file lost text : List ℕ) (calls : List AcceptedCall) (turns : ℕ) →
         SaysNoEvent header → ⟦<Recorder<NotedOutlet<O>> as Monitor<()>>⟧.follows recorder.now header calls →
         recorder.now.outlet.outlet.passed.bytes ≡ file ++ lost → file ≡ header ++ text →
-        Shows v calls → All CanReplay calls →
+        Shows v calls → All AnnouncesNoSize calls →
         (front later : List AcceptedCall) × (calls ≡ front ++ later)
         × ReplaysTo (with_turns turns v.config) (header ++ whole_lines_in text)
         (server_of (with_turns turns v.config) front) (writes_of v.config [] front) }

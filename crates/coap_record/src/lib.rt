@@ -4,7 +4,7 @@
 //! - `Recorder` is a monitor that writes these lines to a `BufferedOutlet`, up to a limit, and passes them on at the
 //!   end of each turn. `MonitorPair` passes each call on to two monitors, such as a recorder and a log.
 //! - `NotedOutlet` lets contracts know the bytes that a recorder passed to an outlet that records none, such as a file.
-//! - `read_range` gives the range of a call's values, which the theorems ask for.
+//! - `read_range` gives the range of a call's values, which the theorems ask for, and that a response is read back.
 //! - `laws` has the theorems. The script reader reads the line of a call back as the event of the call. The text of a
 //!   record replays the run of which it is the record.
 //!

@@ -1,6 +1,6 @@
 //! Writes the line of a call to an outlet.
 
-ghost use Rattle.std.specs.Prelude.{◌≡◌, ◌<◌, ◌^◌, ◌+◌, ◌≤◌, ℕ, length, false, is_err};
+ghost use Rattle.std.specs.Prelude.{◌≡◌, ◌<◌, ◌^◌, ◌+◌, ◌≤◌, ℕ, length, false, is_err, Ok};
 ghost use Rattle.coap_model.specs.world.Events.{Opened};
 ghost use Rattle.coap_record.specs.Prelude.{line_of, took_line, drain_line, stored_line, removed_line, announced_line};
 ghost use Rattle.coap_record.specs.Prelude.{tick_line, word_line, format_word, call_value, WritesText, respond_line};
@@ -133,6 +133,7 @@ fn write_responded<O: Outlet>(
 pub(crate) fn response_of(response: &[u8]) -> &[u8]
     ensures encoded { result.now ≡ spelling (response_in (message_of response.now)) }
     ensures some { 1 ≤ length result.now }
+    ensures read_back { message_of result.now ≡ Ok (response_in (message_of response.now)) }
 {
     match parse(response) {
         Ok(_) => response,

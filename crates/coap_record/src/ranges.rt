@@ -1,7 +1,8 @@
 //! The ranges of the values of a call, which the theorems ask for.
 
 ghost use Rattle.coap_model.specs.world.Events.{Opened};
-ghost use Rattle.coap_record.specs.Prelude.{IsNumber, AreBytes, IsPathOfBytes, IsFormat, IsInRange, call_value};
+ghost use Rattle.coap_record.specs.Prelude.{IsNumber, AreBytes, IsPathOfBytes, IsFormat, IsInRange, IsReadBack};
+ghost use Rattle.coap_record.specs.Prelude.{call_value};
 
 use crate::lines::response_of;
 use coap_model::ConnId;
@@ -47,10 +48,12 @@ pub(crate) fn read_opened(_id: ConnId)
 
 /// Reads a call, which gives the range of its values to the proof of a caller. Does nothing else.
 ///
-/// `laws::lines_are_read_back` asks for this range. `Recorder` states it of each call whose line it has written.
+/// `laws::lines_are_read_back` asks for this range (`range`). The encoding of a response is read back as the response
+/// (`read_back`). `Recorder` states both of each call whose line it has written.
 #[tactic(auto, unfolding(crate::specs::SaidEvents::IsInRange))]
 pub fn read_range(call: &Call<'_>)
-    ensures { IsInRange (call_value call.now) }
+    ensures range { IsInRange (call_value call.now) }
+    ensures read_back { IsReadBack (call_value call.now) }
 {
     match call {
         Call::Took { id, bytes, .. } => {
