@@ -165,7 +165,7 @@ class Quotes:
         if said := re.fullmatch(r"the condition of ([\w:]+),? in ([\w:]+)", refusal):
             if not any(re.search(r"\brequires\b", it) for it in self.clauses(said[1])):
                 return f"{said[1]} has no condition"
-            calls = re.compile(rf"\b{said[1].rpartition(':')[2]}\(")
+            calls = re.compile(rf"\b{said[1].rpartition(':')[2]}(?:::<[^()]*>)?\(")
             return ("" if any(calls.search(it.body) for it in self.contracts(said[2], files))
                     else f"{said[2]} does not call {said[1]}")
         said = re.fullmatch(r"((?:'\w+'(?:, | and )?)+|\"[^\"]+\") of ([\w:]+)", refusal)

@@ -12,3 +12,4 @@ pub mod NextPartLemmas
 pub mod LaterLemmas
 pub mod RunLemmas
 pub mod RunCallLemmas
+pub mod ConfigLemmas

@@ -7,6 +7,7 @@ pub mod ResponseLemmas
 pub mod ServingLemmas
 pub mod UnansweredLemmas
 pub mod AtOnceLemmas
+pub mod RoomLemmas
 pub mod DueAtOnceLemmas
 pub mod IndexSetLemmas
 pub mod ConcernedLemmas

@@ -181,7 +181,7 @@ pub use Rattle.coap_server_engine.specs.values.Exchanges.{Exchange, Requested, O
 pub use Rattle.coap_server_engine.specs.values.Exchanges.{AreUnanswered, offers}
 unfoldable pub use Rattle.coap_server_engine.specs.values.Exchanges.{AnswersMore}
 pub use Rattle.coap_server_engine.specs.values.ApplicationCalls.{server_offered, offered_events, failure_with}
-pub use Rattle.coap_server_engine.specs.values.ApplicationCalls.{response_for, asking, ServeResult}
+pub use Rattle.coap_server_engine.specs.values.ApplicationCalls.{response_for, asking, ServeResult, HasResponseRoom}
 pub use Rattle.coap_server_engine.specs.values.ApplicationCalls.{asks_for, ask_result, IsTakenFor}
 pub use Rattle.coap_server_engine.specs.values.ApplicationCalls.{IsNotTakenFor, AreMade}
 pub use Rattle.coap_server_engine.specs.values.ApplicationCalls.{IsServed, IsPartlyServed}

@@ -1,6 +1,6 @@
 //! The interface through which a program answers the requests that its server hands to it.
 
-ghost use Rattle.std.specs.Prelude.{◌≡◌, ℕ, List, [], ◌∷◌, false, Option, Some, None, IfNone};
+ghost use Rattle.std.specs.Prelude.{◌≡◌, ◌≤◌, ℕ, List, [], ◌∷◌, false, Option, Some, None, IfNone, vec_capacity};
 ghost use Rattle.coap_server_engine.specs.Prelude.{Exchange, Requested, Offered, Given, Gone, AnswersMore, offers};
 ghost use Rattle.coap_server_engine.specs.Prelude.{AreUnanswered};
 ghost use Rattle.coap_io.specs.declared.wire.Wait.{Wait};
@@ -31,6 +31,9 @@ pub trait Application {
     /// `next_response`. A response of more than `limit` bytes is reduced to its code and token: no larger message
     /// may be sent on the connection.
     ///
+    /// `response` has room for `limit` bytes, so a response within the limit needs no allocation. The application may
+    /// enlarge the buffer, and never shrinks it.
+    ///
     /// The path begins with that of an entry with this method, and there is no unrecognised critical option. The
     /// application checks the other options (RFC 7252 sections 5.4.1 and 5.10):
     ///
@@ -53,16 +56,20 @@ pub trait Application {
         limit: usize,
         response: &mut Vec<u8>,
     )
-        requires { response.old.items ≡ [] }
-        ensures { AnswersMore (follows self.old) (follows self.new)
-            (Requested from request.now limit response.new.items ∷ []) };
+        requires empty { response.old.items ≡ [] }
+        requires room { limit ≤ vec_capacity response.old }
+        ensures follows { AnswersMore (follows self.old) (follows self.new)
+            (Requested from request.now limit response.new.items ∷ []) }
+        ensures capacity { vec_capacity response.old ≤ vec_capacity response.new };
 
     /// Writes the next later response to `response`, which is empty, as one encoded message, and returns the connection
-    /// of its request. Returns `None` if there is no response now.
+    /// of its request. Returns `None` if there is no response now. The application may enlarge the buffer, and never
+    /// shrinks it.
     fn next_response(&mut self, response: &mut Vec<u8>) -> Option<ConnId>
         requires { response.old.items ≡ [] }
         ensures offered { AnswersMore (follows self.old) (follows self.new) (offers result response.new.items) }
-        ensures none { IfNone result (idle self.new) };
+        ensures none { IfNone result (idle self.new) }
+        ensures capacity { vec_capacity response.old ≤ vec_capacity response.new };
 
     /// Receives the result of the response that `next_response` returned last, for that connection. After `NoRoom`, it
     /// may return the response again in a later turn.

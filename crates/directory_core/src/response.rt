@@ -17,6 +17,7 @@ type Response<'a> = MessageBuilder<'a, 2>;
 fn append(message: &Response, out: &mut Vec<u8>) -> bool
     ensures written { OnTrue result (out.new.items ≡ out.old.items ++ spelling message.now) }
     ensures unchanged { OnFalse result (out.new ≡ out.old) }
+    ensures capacity { vec_capacity out.new ≡ vec_capacity out.old }
     ensures answer { result ≡ nat_le (length (spelling message.now)) (vec_capacity out.old - vec_len out.old) }
 {
     if message.size() > out.room() as u64 {
@@ -34,6 +35,7 @@ fn write_location<'a>(digits: &'a [u8], token: &'a Token, out: &mut Vec<u8>) -> 
     ensures answer { result
         ≡ fits (vec_capacity out.old - vec_len out.old) (location_message token.now.items digits.now) }
     ensures unchanged { OnFalse result (out.new ≡ out.old) }
+    ensures capacity { vec_capacity out.new ≡ vec_capacity out.old }
 {
     let mut message = Response::new(Code::CREATED, token);
     let Ok(()) = message.option(LOCATION_PATH, b"rd") else {
@@ -52,6 +54,7 @@ fn write_created(number: u64, token: &TokenRef, out: &mut Vec<u8>) -> bool
     ensures answer { result
         ≡ fits (vec_capacity out.old - vec_len out.old) (location_message token.now (decimal number)) }
     ensures unchanged { OnFalse result (out.new ≡ out.old) }
+    ensures capacity { vec_capacity out.new ≡ vec_capacity out.old }
 {
     let digits = decimal_digits(number);
     let token = token.to_token();
@@ -63,6 +66,7 @@ fn write_content<'a>(text: &'a [u8], token: &TokenRef<'a>, out: &mut Vec<u8>) ->
     ensures written { OnTrue result (out.new.items ≡ out.old.items ++ spelling (content_message token.now text.now)) }
     ensures answer { result ≡ fits (vec_capacity out.old - vec_len out.old) (content_message token.now text.now) }
     ensures unchanged { OnFalse result (out.new ≡ out.old) }
+    ensures capacity { vec_capacity out.new ≡ vec_capacity out.old }
 {
     let mut message = Response::with_token_ref(Code::CONTENT, token.copy());
     let Ok(()) = message.option(CONTENT_FORMAT, b"\x28") else {
@@ -80,6 +84,7 @@ fn write_short<'a>(code: Code, text: &'a [u8], token: &TokenRef<'a>, out: &mut V
         (out.new.items ≡ out.old.items ++ spelling (short_message token.now code text.now)) }
     ensures answer { result ≡ fits (vec_capacity out.old - vec_len out.old) (short_message token.now code text.now) }
     ensures unchanged { OnFalse result (out.new ≡ out.old) }
+    ensures capacity { vec_capacity out.new ≡ vec_capacity out.old }
 {
     let mut message = Response::with_token_ref(code, token.copy());
     if message.payload(text).is_err() {
@@ -101,6 +106,7 @@ pub fn write_response<'a>(
     ensures answer { result ≡ fits (vec_capacity out.old - vec_len out.old)
         (message_of token.now (option_map (λ c. c.now) content.entry) reply) }
     ensures unchanged { OnFalse result (out.new ≡ out.old) }
+    ensures capacity { vec_capacity out.new ≡ vec_capacity out.old }
 {
     match reply {
         Reply::Created(number) => write_created(number, token, out),

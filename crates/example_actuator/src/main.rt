@@ -45,10 +45,10 @@ fn receive(
     bytes: &[u8],
     valve: &mut Valve,
 ) -> Result<()> {
-    let mut response = Vec::new(rt.alloc());
     let mut rest = bytes;
     // Each turn accepts at least one byte.
     for _ in 0..bytes.len() {
+        let mut response = server.response_buffer().context("no memory")?;
         let served = server
             .take_all_for::<(), NoMonitor, Valve>(id, rest, valve, &mut response, &mut NoMonitor)
             .context("no memory")?;

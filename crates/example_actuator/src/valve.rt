@@ -1,6 +1,6 @@
 //! The valve, as the application of a server: it answers the requests of /valve.
 
-ghost use Rattle.std.specs.Prelude.{◌≡◌, [], true, false, IfOk};
+ghost use Rattle.std.specs.Prelude.{◌≡◌, ◌≤◌, [], true, false, vec_capacity, IfOk};
 ghost use Rattle.coap_serve.specs.Prelude.{Spells};
 ghost use Rattle.example_actuator.specs.Position.{IsPosition};
 
@@ -93,6 +93,7 @@ fn write(response: &Builder<'_>, out: &mut Vec<u8>) -> bool
     requires { out.old.items ≡ [] }
     ensures written { result ≡ true → Spells out.new.items response.now }
     ensures empty { result ≡ false → out.new.items ≡ [] }
+    ensures capacity { vec_capacity out.old ≤ vec_capacity out.new }
 {
     if out.reserve(response.size() as usize).is_err() {
         return false;

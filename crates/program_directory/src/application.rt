@@ -1,6 +1,6 @@
 //! The resource directory as the application of a server.
 
-ghost use Rattle.std.specs.Prelude.{◌≡◌, ◌-◌, ℕ, List, [], ◌∷◌, ◌++◌, option_map, vec_len, vec_capacity};
+ghost use Rattle.std.specs.Prelude.{◌≡◌, ◌≤◌, ◌-◌, ℕ, List, [], ◌∷◌, ◌++◌, option_map, vec_len, vec_capacity};
 ghost use Rattle.coap_io.specs.streams.DeviceTraces.{AddsCalls};
 ghost use Rattle.coap_server_engine.specs.values.Exchanges.{AnswersMore, Requested};
 ghost use Rattle.directory_core.specs.Replies.{new_directory};
@@ -30,6 +30,7 @@ pub(crate) struct DirectoryApplication<C: Drop> {
 fn write_reply<'a>(reply: Reply, content: Option<&'a [u8]>, token: &TokenRef<'a>, out: &mut Vec<u8>)
     ensures written { out.new.items ≡ out.old.items ++ response_of (vec_capacity out.old - vec_len out.old) token.now
         (option_map (λ c. c.now) content.entry) reply }
+    ensures capacity { vec_capacity out.new ≡ vec_capacity out.old }
 {
     let _ = write_response(reply, content, token, out)
         || write_response(Reply::OutOfMemory, None, token, out);
@@ -55,6 +56,7 @@ impl<C: Clock + Drop> DirectoryApplication<C> {
         ensures answered { (bytes : List ℕ) × (response.new.items ≡ response.old.items ++ bytes)
             × IsAnswered (AddsCalls (C.moments self.old.clock) (C.moments self.new.clock)) self.old.directory limit
             (vec_capacity response.old - vec_len response.old) request.now token.now.items bytes self.new.directory }
+        ensures capacity { vec_capacity response.new ≡ vec_capacity response.old }
     {
         let now = self.clock.now().min(LAST);
         let results = limit.saturating_sub(HEAD + token.as_slice().len());
@@ -78,13 +80,15 @@ impl<C: Clock + Drop> Application for DirectoryApplication<C> {
         limit: usize,
         response: &mut Vec<u8>,
     )
-        requires { response.old.items ≡ [] }
+        requires empty { response.old.items ≡ [] }
+        requires room { limit ≤ vec_capacity response.old }
         ensures follows { AnswersMore (λ exchanges. Answers exchanges self.old.directory)
             (λ exchanges. Answers exchanges self.new.directory)
             (Requested from request.now limit response.new.items ∷ []) }
         ensures answered { IsAnswered (AddsCalls (C.moments self.old.clock) (C.moments self.new.clock))
             self.old.directory limit (vec_capacity response.old - vec_len response.old) request.now request.now.token
             response.new.items self.new.directory }
+        ensures capacity { vec_capacity response.old ≤ vec_capacity response.new }
     {
         let token = request.token().to_token();
         self.answer(request, &token, limit, response);

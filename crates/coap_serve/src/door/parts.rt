@@ -1,6 +1,6 @@
 //! The parts of a turn of a service before its visits, and the limit of its wait.
 
-ghost use Rattle.std.specs.Prelude.{ℕ, ◌≡◌, ◌≢◌, ◌==◌, false, Option, is_some};
+ghost use Rattle.std.specs.Prelude.{ℕ, ◌≡◌, ◌≢◌, ◌≤◌, ◌==◌, false, Option, is_some, vec_capacity};
 ghost use Rattle.coap_serve.specs.Prelude.{AnswersMore, AreRequestedLater, FollowsMore, IsRequestedLater, SleepOn};
 
 use super::awake::Awake;
@@ -137,6 +137,7 @@ fn answer_each<W, A: Application, M: Monitor<W>>(
     ensures kept { SleepOn awake.old awake.new server.old server.new }
     // The application has no later response now.
     ensures idle { result ≢ 256 → A.idle application.new }
+    ensures capacity { vec_capacity response.old ≤ vec_capacity response.new }
 {
     for count in 0..MOST_RESPONSES {
         if !answer_once::<W, A, M>(server, awake, application, response, monitor) {
@@ -159,6 +160,7 @@ fn answer_once<W, A: Application, M: Monitor<W>>(
         (AnswersMore (A.follows application.old) (A.follows application.new)) }
     ensures kept { SleepOn awake.old awake.new server.old server.new }
     ensures idle { result ≡ false → A.idle application.new }
+    ensures capacity { vec_capacity response.old ≤ vec_capacity response.new }
 {
     let Some(id) = server.answer_next::<W, M, A>(application, response, monitor) else {
         return false;

@@ -1,6 +1,7 @@
 //! The transport side of a connection, and how a turn serves it.
 
-ghost use Rattle.std.specs.Prelude.{◌≡◌, ◌≢◌, ◌||◌, nat_lt, false, [], length, is_some, IfOk, IfErr};
+ghost use Rattle.std.specs.Prelude.{◌≡◌, ◌≢◌, ◌≤◌, ◌||◌, nat_lt, false, [], length, is_some, IfOk, IfErr};
+ghost use Rattle.std.specs.Prelude.{vec_capacity};
 ghost use Rattle.coap_serve.specs.Prelude.{HasServed, IsTakenInPart, IsVisited, known_by, views_of, way};
 ghost use Rattle.coap_serve.specs.Prelude.{visit, AddsBytes, AreCallsBetween, KeepsBeside};
 ghost use Rattle.coap_serve.specs.Prelude.{HasAccepted, IsTakenWith, AddsCalls, read_events, wrote_events};
@@ -9,6 +10,7 @@ ghost use Rattle.coap_serve.specs.Prelude.{server_wrote, waiting_once, has_faile
 ghost use Rattle.coap_serve.specs.Prelude.{interest_of, IsWithin, IsMemory, IsOneWrite, bytes_passed, stop_on};
 ghost use Rattle.coap_serve.specs.Prelude.{session_of, IsReadiness, CanGoOn, status_with, IsOutcomeFor};
 ghost use Rattle.coap_serve.specs.Prelude.{work_of, KeepsOthers, KeepsWork, LiesAt};
+ghost use Rattle.coap_server_engine.specs.values.ApplicationCalls.{HasResponseRoom};
 ghost use Rattle.coap_io.specs.declared.wire.Got.TheVariants.{Later, End};
 
 use super::peer_interest::{PeerInterest, interest_by};
@@ -106,6 +108,7 @@ pub(super) fn serve_peer<W: Wire + Ready, A: Application, M: Monitor<W>>(
     monitor: &mut M,
 ) -> Result<PeerVisit, IoFault>
     requires lies { LiesAt turn.index.id turn.index.at server.old.sessions }
+    requires room { HasResponseRoom server.old.config (vec_capacity response.old) }
     // The wire is read once if a read is due, and written once if bytes are queued and it may be written. Otherwise it
     // is not touched. The monitor receives the calls of these steps, and no others.
     ensures part { IfOk result (λ x. HasAccepted (λ h. IsVisited (way A.follows turn.second (views_of W.readable
@@ -119,6 +122,7 @@ pub(super) fn serve_peer<W: Wire + Ready, A: Application, M: Monitor<W>>(
     ensures kept { IfOk result (λ x. KeepsBeside turn.index.id x.affected.words server.old server.new) }
     ensures reason { IfOk result (λ x. IsOutcomeFor x.outcome (work_of server.new turn.index.id)) }
     ensures fault { IfErr result IsMemory }
+    ensures capacity { vec_capacity response.old ≤ vec_capacity response.new }
 {
     let PeerTurn { index, second } = turn;
     let id = index.id;
@@ -249,6 +253,7 @@ fn take_buffered<W, A: Application, M: Monitor<W>>(
     response: &mut Vec<u8>,
     monitor: &mut M,
 ) -> Result<Served, IoFault>
+    requires { HasResponseRoom server.old.config (vec_capacity response.old) }
     ensures taken { IfOk result (λ s. HasAccepted (λ h. IsTakenInPart (IsTakenWith A.follows) server.old id rest.old
         rest.new (record { server = server.new; count = s.count; history = h }))
         (known_by M.follows A.follows monitor.old monitor.new application.old application.new) server.old server.new) }
@@ -256,6 +261,7 @@ fn take_buffered<W, A: Application, M: Monitor<W>>(
     ensures shows { HasServed (known_by M.follows A.follows monitor.old monitor.new application.old application.new)
         server.old server.new }
     ensures fault { IfErr result IsMemory }
+    ensures capacity { vec_capacity response.old ≤ vec_capacity response.new }
 {
     let taken = server.take_all_for::<W, M, A>(id, rest.bytes(), application, response, monitor);
     let Ok(served) = taken else {

@@ -1,7 +1,8 @@
 //! A server over the connections of a listener, for a program that embeds it and runs the event loop.
 
-ghost use Rattle.std.specs.Prelude.{◌≡◌, false};
+ghost use Rattle.std.specs.Prelude.{◌≡◌, false, vec_capacity};
 ghost use Rattle.std.proofs.Props.{props};
+ghost use Rattle.coap_server_engine.specs.values.ApplicationCalls.{HasResponseRoom};
 ghost use Rattle.coap_serve.specs.listener.Sleepers.{ArePaired, AreAsleep};
 
 use super::awake::Awake;
@@ -66,6 +67,7 @@ pub struct Service<W: Ready> {
     pub(super) second: u64,
     pub(super) is_spent: bool,
     ghost paired: { is_spent ≡ false → ArePaired server peers.entries } by { Prim.hlevel props },
+    ghost room: { HasResponseRoom server.config (vec_capacity response) } by { Prim.hlevel props },
     ghost asleep: { is_spent ≡ false → AreAsleep W.readable W.writable awake server peers.entries },
 }
 

@@ -8,7 +8,7 @@ use Rattle.coap_server_engine.specs.Prelude.{unless_refused, on_connection, in_r
 use Rattle.coap_server_engine.specs.Prelude.{event_ran, replayed, in_before, joined, DifferInCuts, lines_of}
 use Rattle.coap_server_engine.specs.Prelude.{other_lines, IsInTime, AreInTime, SessionValue, ServerValue, session_of}
 use Rattle.coap_server_engine.specs.Prelude.{server_taken, open_refusal, released_refusal_on, AcceptedCall, Shows}
-use Rattle.coap_server_engine.specs.Prelude.{Respond, response_number, NoSuch, release_fault, comes_to, server_opened}
+use Rattle.coap_server_engine.specs.Prelude.{Respond, response_number, release_fault, comes_to, server_opened}
 use Rattle.coap_server_engine.specs.Prelude.{server_ticked, server_put, server_removed, server_ended, server_released}
 use Rattle.coap_server_engine.specs.Prelude.{server_given, server_dropped, open_line, drain_ran, tick_line, put_line}
 use Rattle.coap_server_engine.specs.Prelude.{remove_line, word_line, status_ran}

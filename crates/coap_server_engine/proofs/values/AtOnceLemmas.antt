@@ -1,8 +1,8 @@
 -- A response of the application directly after the take that handed over its request: the connection then, and the
 -- errors that remain.
-use Rattle.std.proofs.Common.{◌≡◌, ◌⊎◌, ℕ, ◌<◌, ◌≤◌, ◌/◌, ◌%◌, ◌==◌, true, false, List, [], ◌∷◌, ◌++◌, length, Option}
+use Rattle.std.proofs.Common.{◌≡◌, ◌≢◌, ◌⊎◌, ℕ, ◌<◌, ◌≤◌, ◌/◌, ◌%◌, ◌==◌, true, false, List, [], ◌∷◌, ◌++◌, length}
 use Rattle.std.proofs.Common.{Some, None, Result, Ok, Err, refl, sym, ◌∙◌, inl, inr, arith, IfSome, option_and_then}
-use Rattle.std.proofs.Common.{option_map, ap, subst}
+use Rattle.std.proofs.Common.{option_map, ap, subst, Option}
 use Rattle.std.proofs.lemmas.Bool.{cases_Bool, and_parts}
 use Rattle.std.proofs.lemmas.List.{length-take-le, append-nil}
 use lib.Pointwise.{bytes_decides}
@@ -28,7 +28,6 @@ use Rattle.coap_conn.specs.declared.pending.Responder.{Responder}
 use Rattle.coap_conn.specs.declared.pending.Responder.TheVariants.{Engine, Application}
 use Rattle.coap_conn.specs.declared.phase.Phase.{Phase}
 use Rattle.coap_conn.specs.declared.phase.Phase.TheVariants as phase
-use Rattle.coap_conn.specs.declared.phase.Reply.TheVariants.{Stopped}
 use Rattle.coap_conn.specs.declared.phase.RespondFault.TheVariants as fault
 use Rattle.coap_conn.proofs.PendingLaws.{due_nothing}
 use Rattle.coap_conn.proofs.RequestLemmas.{react_asks, request_stays}
@@ -48,7 +47,8 @@ use Rattle.coap_server_engine.specs.Prelude.{FrameEventValue, framing, LinkValue
 use Rattle.coap_server_engine.specs.Prelude.{frame_refusal, response_refusal, shared_changed, ServerState, SessionValue}
 use Rattle.coap_server_engine.specs.Prelude.{session_takes, session_handled, taking, taking_read, IsSettled}
 use Rattle.coap_server_engine.specs.Prelude.{failure_with, is_handed, is_handed_over, handed, handed_read, handed_found}
-use Rattle.coap_server_engine.specs.Prelude.{frame_message}
+use Rattle.coap_server_engine.specs.Prelude.{frame_message, handed_by, handed_frame, handed_on, session_of, stop_on}
+use Rattle.coap_server_engine.specs.Prelude.{server_taken, ServerValue, Reason}
 use Rattle.coap_store.specs.Answer as store_change
 use Rattle.std.proofs.lemmas.Bool.Decides.{nat_tests}
 
@@ -160,6 +160,13 @@ deadline_some : (o : Option ApplicationsValue) (m : Message) (seconds : ℕ) →
 unfolding application_deadline
 deadline_some None m seconds is some = absurd cc
 deadline_some (Some a) m seconds is some = grind (arith, some)
+
+-- A deadline comes from an application.
+some_application : (o : Option ApplicationsValue) (m : Message) (seconds : ℕ)
+    → application_deadline o m ≡ Some seconds → o ≢ None
+unfolding application_deadline
+some_application None m seconds is none = absurd cc
+some_application (Some a) m seconds is none = cc
 
 -- ---- a message that is handed over
 
@@ -311,5 +318,25 @@ module _ (shared : ServerState) (s : SessionValue) (piece : List ℕ) (m : Messa
       let d = delayed shared s m hands.takes hands.over in
       omega (arith, deadline_some shared.store.applications m d.0 (delay_is_deadline _ _ d.0 d.1) some)
 
+  -- The server has applications.
+  pub has_applications : shared.store.applications ≢ None
+  has_applications =
+      let d = delayed shared s m hands.takes hands.over in
+      some_application shared.store.applications m d.0 (delay_is_deadline _ _ d.0 d.1)
+
   pub took_settled : shared.now < deadline → IsSettled shared s → IsSettled shared (with_request s m deadline)
   took_settled later settled = still_settled shared s m hands.takes hands.over settled later
+
+-- The connection on which a take hands over a request.
+pub session_handed : (v : ServerValue) (id : ℕ) (piece : List ℕ) (m : Message) → handed_by v id piece ≡ Some m
+    → (s : SessionValue) × (session_of id v.sessions ≡ Some s) × HandsOver v.shared s piece m
+unfolding handed_frame
+session_handed v id piece m =
+    by (session_of id v.sessions) (stop_on (session_of id (server_taken v id piece).sessions)) refl
+  where
+    by : (found : Option SessionValue) (stop : Option Reason) → session_of id v.sessions ≡ found
+        → option_and_then frame_message (handed_on v piece found stop) ≡ Some m
+        → (s : SessionValue) × (session_of id v.sessions ≡ Some s) × HandsOver v.shared s piece m
+    by None stop there is = absurd cc
+    by (Some s) (Some why) there is = absurd cc
+    by (Some s) None there is = (s, there, request_handed v.shared s piece m is)

@@ -1,7 +1,7 @@
 -- The connections of a server that a change of a path or of the time does not affect stay settled.
 use Rattle.std.proofs.Common.{◌≡◌, ℕ, zero, suc, ◌+◌, ◌-◌, add-zero, ◌<◌, ◌≤◌, ◌^◌, [], ◌∷◌, length, Option, Some, None}
 use Rattle.std.proofs.Common.{refl, sym, arith, add-one, inl, inr}
-use Rattle.coap_server_engine.specs.Prelude.{map, slice_get, AllByRecursion, values_of, set_value_at, Path, Change}
+use Rattle.coap_server_engine.specs.Prelude.{map, slice_get, AllByRecursion, values_of, set_value_at, Change}
 use Rattle.coap_server_engine.specs.Prelude.{Nothing, Put, Delete, IsStore, ServerState, Cause, SessionValue}
 use Rattle.coap_server_engine.specs.Prelude.{shared_changed, session_settled, IsSettled, AreSettled, changed_at}
 use Rattle.coap_server_engine.specs.Prelude.{settled_entry, change_hash, IsUnaffected, UnaffectedAreSettled}

@@ -1,6 +1,6 @@
 -- A response of the application directly after the take that handed over its request has room.
 use Rattle.std.proofs.Common.{◌≡◌, ◌≢◌, ◌⊎◌, ℕ, ◌<◌, ◌≤◌, ◌==◌, true, false, List, [], ◌∷◌, map, Option, Some, None, Ok}
-use Rattle.std.proofs.Common.{refl, sym, ap, ◌∙◌, inl, inr, arith, is_none, option_map, option_and_then, subst}
+use Rattle.std.proofs.Common.{refl, sym, ap, ◌∙◌, inl, inr, arith, is_none, option_map, subst}
 use Rattle.coap_conn.specs.declared.phase.RespondFault.TheVariants as fault
 use Rattle.coap_server_session.specs.values.Sessions.{session_ready}
 use Rattle.std.proofs.lemmas.Bool.{cases_Bool, and_parts, leb-true, cases_lt}
@@ -17,17 +17,17 @@ use Rattle.coap_model.proofs.OptionLemmas.{same_there, one_made}
 use Rattle.coap_model.proofs.world.AcrossLaws.{applications_stay}
 use Rattle.coap_model.proofs.world.EndOfInputLaws.{world_stays, world_known, world_hears}
 use Rattle.coap_model.specs.world.World as world
-use Rattle.coap_server_engine.specs.Prelude.{Message, message_of, spelling, Reason, LimitValues, takes_messages}
+use Rattle.coap_server_engine.specs.Prelude.{Message, message_of, spelling, LimitValues, takes_messages}
 use Rattle.coap_server_engine.specs.Prelude.{frame_refusal, ResponseFault, response_fault, ServerState, SessionValue}
 use Rattle.coap_server_engine.specs.Prelude.{session_settled, IsSettled, ServerValue, session_of, session_becomes}
 use Rattle.coap_server_engine.specs.Prelude.{settled_entry, server_settled, server_taken, AreSettled, TakeOutcome}
 use Rattle.coap_server_engine.specs.Prelude.{taking, shared_changed, World, Step, new_world, after_steps, AcceptedCall}
-use Rattle.coap_server_engine.specs.Prelude.{world_after, steps_of, server_of, Shows, stop_on, handed_on, handed_frame}
-use Rattle.coap_server_engine.specs.Prelude.{handed_by, frame_message, responded_refusal, responded_refusal_on}
+use Rattle.coap_server_engine.specs.Prelude.{world_after, steps_of, server_of, Shows}
+use Rattle.coap_server_engine.specs.Prelude.{handed_by, responded_refusal, responded_refusal_on}
 use Rattle.coap_server_engine.specs.Prelude.{response_for, failure_with, server_shown, AllByRecursion}
 use Rattle.coap_server_engine.proofs.values.ServerLemmas.{Entries, all_are_settled}
 use Rattle.coap_server_engine.proofs.values.AtOnceLemmas.{with_request, other_fault, accepted_with, requested_last}
-use Rattle.coap_server_engine.proofs.values.AtOnceLemmas.{failure_read, HandsOver, request_handed, deadline}
+use Rattle.coap_server_engine.proofs.values.AtOnceLemmas.{failure_read, HandsOver, session_handed, deadline}
 use Rattle.coap_server_engine.proofs.values.AtOnceLemmas.{deadline_later, took_session, took_nothing, took_settled}
 use Rattle.coap_server_engine.proofs.values.DueAtOnceLemmas.{NoRequests, settles_request, no_request_fault}
 use Rattle.coap_server_engine.proofs.world.DeadlineLaws.{no_request_waits}
@@ -101,16 +101,7 @@ module _ (v : ServerValue) (es : List AcceptedCall) (id : ℕ) (piece : List ℕ
     (requested : handed_by v id piece ≡ Some m) where
   -- The connection before the take.
   there_before : (s : SessionValue) × (session_of id v.sessions ≡ Some s) × HandsOver v.shared s piece m
-  unfolding handed_frame
-  there_before = by (session_of id v.sessions) (stop_on (session_of id (server_taken v id piece).sessions)) refl
-      requested
-    where
-      by : (found : Option SessionValue) (stop : Option Reason) → session_of id v.sessions ≡ found
-          → option_and_then frame_message (handed_on v piece found stop) ≡ Some m
-          → (s : SessionValue) × (session_of id v.sessions ≡ Some s) × HandsOver v.shared s piece m
-      by None stop there is = absurd cc
-      by (Some s) (Some why) there is = absurd cc
-      by (Some s) None there is = (s, there, request_handed v.shared s piece m is)
+  there_before = session_handed v id piece m requested
 
   abbrev asking : SessionValue
   asking = there_before.0

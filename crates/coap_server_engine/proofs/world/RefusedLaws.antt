@@ -5,7 +5,7 @@ use Rattle.std.proofs.Common.{sym, ◌∙◌, append_assoc, arith, subst}
 use Rattle.coap_server_engine.specs.Prelude.{Message, Stream, split, split_on, IsPut, ConfigValues, SessionValue}
 use Rattle.coap_server_engine.specs.Prelude.{RefusesPiece, ServerValue, session_of, count_taken, Connection, World}
 use Rattle.coap_server_engine.specs.Prelude.{side_of, Handled, AcceptedCall, stream_on, beyond, world_after, size_on}
-use Rattle.coap_server_engine.specs.Prelude.{steps_by, takes, change_made, session_shown, Shows, IsNotTaken, TakeFault}
+use Rattle.coap_server_engine.specs.Prelude.{steps_by, change_made, session_shown, Shows, IsNotTaken, TakeFault}
 use Rattle.coap_server_engine.specs.Prelude.{IsRefusedStored, IsRefusedFor, StoresNothing, ServerState, change_by}
 use Rattle.std.proofs.lemmas.Grind.{take_at_read}
 use Rattle.std.proofs.lemmas.List.{take-append-drop}

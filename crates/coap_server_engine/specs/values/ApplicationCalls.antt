@@ -1,13 +1,14 @@
 -- Defined by this project: the calls that accept the bytes of a connection and ask the application for responses. Other
 -- calls take later responses from it.
 use Rattle.std.specs.Prelude.{◌≡◌, ◌≤◌, ◌==◌, ℕ, suc, Bool, true, List, [], ◌∷◌, ◌++◌, take, drop, Option, Some, None}
-use Rattle.std.specs.Prelude.{is_none, min, Result, if◌then◌else◌, IfOk}
+use Rattle.std.specs.Prelude.{◌≢◌, is_none, min, Result, if◌then◌else◌, IfOk}
 use Rattle.coap_wire.specs.Message.{Message}
 use Rattle.coap_wire.specs.Reading.{message_of}
 use Rattle.coap_wire.specs.Refusal.{RefusedBy}
 use Rattle.coap_wire.specs.Spelling.{spelling}
 use Rattle.coap_wire.specs.Codes.{internal_server_error}
 use Rattle.coap_conn.specs.declared.phase.Reply.{Reply}
+use Rattle.coap_model.specs.Configs.{ConfigValues}
 use Rattle.coap_model.specs.declared.answers.ResponseFault.{ResponseFault}
 use Rattle.coap_model.specs.declared.answers.TakeFault.TheVariants as taking
 use Rattle.coap_model.specs.world.Events.{AcceptedCall, Took}
@@ -56,6 +57,11 @@ limit_of v (Some s) = min v.config.limits.max_sent s.link.peer_max
 -- The same for the connection with this id.
 unfoldable pub message_limit : ServerValue → ℕ → ℕ
 message_limit v id = limit_of v (session_of id v.sessions)
+
+-- A buffer of this capacity has room for each response of an application: for a message of `max_sent` bytes. A server
+-- without applications needs no room.
+abbrev pub HasResponseRoom : ConfigValues → ℕ → Type 0
+HasResponseRoom c capacity = c.applications ≢ None → c.limits.max_sent ≤ capacity
 
 -- The exchange of a request, if there is one.
 abbrev pub asks_for : (id limit : ℕ) → List ℕ → Option Message → List Exchange

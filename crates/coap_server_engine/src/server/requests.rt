@@ -31,7 +31,7 @@ struct ReceivedBytes<'a> {
 impl Server {
     ghost use Rattle.std.specs.Prelude.{◌≡◌, ◌+◌, ◌≤◌, ◌++◌, ◌∷◌, ⊤, List, [], Result, Option, Some, None};
     ghost use Rattle.std.specs.Prelude.{length, take, true, false, IfOk, IfErr, IfNone, IfSome, OnOk, OnErr};
-    ghost use Rattle.std.specs.Prelude.{option_copied, option_and_then, option_map};
+    ghost use Rattle.std.specs.Prelude.{option_copied, option_and_then, option_map, vec_capacity};
     ghost use Rattle.coap_server_engine.specs.Prelude.{sem, follows_so, none, ShowsMore, session_of, is_there};
     ghost use Rattle.coap_server_engine.specs.Prelude.{count_taken, server_taken, handled_by, IsNotTaken};
     ghost use Rattle.coap_server_engine.specs.Prelude.{LiesAt, frame_message, AcceptedCall, Took, takes};
@@ -41,7 +41,7 @@ impl Server {
     ghost use Rattle.coap_server_engine.specs.Prelude.{IsTakenRequest, server_offered};
     ghost use Rattle.coap_server_engine.specs.Prelude.{offered_events, response_for, IsTakenFor, IsNotTakenFor};
     ghost use Rattle.coap_server_engine.specs.Prelude.{asks_for, message_limit, changing_frame, frame_key, ChangesBy};
-    ghost use Rattle.coap_server_engine.specs.Prelude.{KeepsWork, AreSettled, AddsAffected};
+    ghost use Rattle.coap_server_engine.specs.Prelude.{KeepsWork, AreSettled, AddsAffected, HasResponseRoom};
     ghost use Rattle.coap_server_engine.specs.contracts.server.Server.{the_row};
 
     /// Accepts bytes as `take` does, and lends the request that it handed to the application, if the accepted bytes end
@@ -189,7 +189,8 @@ impl Server {
     #[tactic(auto, using(crate::proofs::values::ServerLemmas::unmarked_at, crate::proofs::values::ServerLemmas::within_unmarked), unfolding(crate::specs::values::ApplicationCalls::message_limit))]
     fn message_limit(&self, index: ConnIndex) -> usize
         requires { LiesAt index.id index.at self.now.sessions }
-        ensures { result ≡ message_limit self.now index.id }
+        ensures limit { result ≡ message_limit self.now index.id }
+        ensures applications { self.now.config.applications ≡ self.now.shared.store.applications }
     {
         let most = self.config.limits().max_sent();
         most.min(self.sessions[index.at].peer_max() as usize)
@@ -213,6 +214,7 @@ impl Server {
     ) -> Result<(Taken, Option<Token>), TakeFault>
         requires lies { LiesAt index.id index.at self.old.sessions }
         requires empty { response.old.items ≡ [] }
+        requires room { HasResponseRoom self.old.config (vec_capacity response.old) }
         ensures within { IfOk result (λ t. t.0.bytes ≤ length rest.now) }
         ensures count { IfOk result (λ t. t.0.bytes ≡ count_taken self.old index.id rest.now) }
         ensures handled { IfOk result (λ t. t.0.handled ≡ handled_by self.old index.id rest.now) }
@@ -232,6 +234,7 @@ impl Server {
         ensures silent { OnErr result (application.new ≡ application.old) }
         ensures affected { OnOk result (AddsAffected index.id affected.old.words affected.new.words self.old
             (server_taken self.old index.id rest.now)) }
+        ensures capacity { vec_capacity response.old ≤ vec_capacity response.new }
     {
         let limit = self.message_limit(index);
         let taken = self.take_request_at(index, rest, affected)?;
@@ -292,7 +295,8 @@ impl Server {
         monitor: &mut M,
         affected: &mut IndexSet,
     ) -> Result<usize, AllocError>
-        requires { LiesAt received.index.id received.index.at self.old.sessions }
+        requires lies { LiesAt received.index.id received.index.at self.old.sessions }
+        requires room { HasResponseRoom self.old.config (vec_capacity response.old) }
         ensures within { IfOk result (λ n. n ≤ length received.entry.bytes.now) }
         ensures count { IfOk result (λ n. n ≡ count_taken self.old received.entry.index.id received.entry.bytes.now) }
         ensures there { OnOk result (is_there (session_of received.entry.index.id self.old.sessions) ≡ true) }
@@ -306,6 +310,7 @@ impl Server {
         ensures silent { OnErr result (application.new ≡ application.old) }
         ensures affected { OnOk result (AddsAffected received.entry.index.id affected.old.words affected.new.words
             self.old self.new) }
+        ensures capacity { vec_capacity response.old ≤ vec_capacity response.new }
     {
         let index = received.index;
         response.clear();
@@ -341,12 +346,16 @@ impl Server {
     /// which the messages may have changed the work left.
     ///
     /// If the server does not accept the response, it sends 5.00 (Internal Server Error) with the token of the request.
-    /// The monitor receives `Call::Responded` after `Call::Took`. `response` is the buffer for the responses: it is
-    /// cleared, and no memory is allocated beyond what the application allocates.
+    /// The monitor receives `Call::Responded` after `Call::Took`. `response` is the buffer for the responses
+    /// (`response_buffer`): it is cleared, and no memory is allocated beyond what the application allocates.
     ///
     /// # Errors
     ///
     /// Returns `AllocError` if allocation fails. The messages before the failure were processed then.
+    ///
+    /// # Preconditions
+    ///
+    /// If the server has applications, `response` has room for a message of `max_sent` bytes.
     pub fn take_all_for<W, M: Monitor<W>, A: Application>(
         &mut self,
         id: ConnId,
@@ -355,6 +364,7 @@ impl Server {
         response: &mut Vec<u8>,
         monitor: &mut M,
     ) -> Result<Served, AllocError>
+        requires { HasResponseRoom self.old.config (vec_capacity response.old) }
         ensures within { IfOk result (λ s. s.count ≤ length bytes.now) }
         ensures served { IfOk result (λ s. IsServed self.old id bytes.now s.count self.new
             (FollowsMore (M.follows monitor.old) (M.follows monitor.new))
@@ -363,6 +373,8 @@ impl Server {
         ensures partly { OnErr result (IsPartlyServed self.old id bytes.now self.new
             (FollowsMore (M.follows monitor.old) (M.follows monitor.new))
             (AnswersMore (A.follows application.old) (A.follows application.new))) }
+        ensures capacity { vec_capacity response.old ≤ vec_capacity response.new }
+        ensures room { HasResponseRoom self.new.config (vec_capacity response.new) }
     {
         let mut affected = IndexSet::empty();
         let Some(at) = self.seek(id) else {
@@ -412,6 +424,7 @@ impl Server {
             (FollowsMore (M.follows monitor.old) (M.follows monitor.new))
             (AnswersMore (A.follows application.old) (A.follows application.new)) }
         ensures none { IfNone result (A.idle application.new) }
+        ensures capacity { vec_capacity response.old ≤ vec_capacity response.new }
     {
         response.clear();
         let id = application.next_response(response)?;

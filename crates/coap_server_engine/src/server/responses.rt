@@ -5,13 +5,27 @@ use super::sessions::respond_at;
 use crate::monitor::{Call, Monitor, NoMonitor};
 use coap_conn::Reply;
 use coap_model::{ConnId, ResponseFault};
+use std::alloc::AllocError;
 
 impl Server {
-    ghost use Rattle.std.specs.Prelude.{◌≡◌, ◌++◌, List, IfOk, IfSome, OnOk, OnErr, is_some};
+    ghost use Rattle.std.specs.Prelude.{◌≡◌, ◌++◌, List, [], IfOk, IfSome, OnOk, OnErr, is_some, vec_capacity};
     ghost use Rattle.coap_server_engine.specs.Prelude.{RefusedBy, AreSettled, session_of, server_given, response_event};
     ghost use Rattle.coap_server_engine.specs.Prelude.{responded_refusal, IsReplyOn, message_of, AcceptedCall, Shows};
     ghost use Rattle.coap_server_engine.specs.Prelude.{is_there, LiesAt, server_offered, offered_events, ShowsMore};
-    ghost use Rattle.coap_server_engine.specs.Prelude.{FollowsMore};
+    ghost use Rattle.coap_server_engine.specs.Prelude.{FollowsMore, HasResponseRoom};
+
+    /// Returns an empty buffer for the responses of an application. It has room for a message of `max_sent` bytes, the
+    /// largest that is sent.
+    ///
+    /// # Errors
+    ///
+    /// Returns `AllocError` if allocation fails.
+    pub fn response_buffer(&self) -> Result<Vec<u8>, AllocError>
+        ensures empty { IfOk result (λ buffer. buffer.items ≡ []) }
+        ensures room { IfOk result (λ buffer. HasResponseRoom self.now.config (vec_capacity buffer)) }
+    {
+        Vec::with_capacity(self.alloc, self.config.limits().max_sent())
+    }
 
     /// Queues a response of the application, and removes the first pending request with its token. `response` is one
     /// encoded message.

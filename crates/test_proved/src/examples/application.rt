@@ -89,7 +89,7 @@ fn asks(
     wanted: &[u8],
 ) -> Result<(), Fail> {
     let request = parse(frame)?;
-    let mut response = Vec::new(rt.alloc());
+    let mut response = Vec::with_capacity(rt.alloc(), 65_536)?;
     oven.request(id, &request, 65_536, &mut response);
     assert!(rt; response.as_slice() == wanted);
     Ok(())

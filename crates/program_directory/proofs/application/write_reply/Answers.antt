@@ -1,4 +1,4 @@
-use Rattle.std.proofs.Common.{◌-◌, vec_capacity, vec_len}
+use Rattle.std.proofs.Common.{◌-◌, ◌∙◌, vec_capacity, vec_len}
 use Rattle.program_directory.proofs.AnswerLemmas.{other_appended}
 use Rattle.program_directory.proofs.application.write_reply.Goals as goal
 
@@ -9,4 +9,5 @@ returns-else-write_response c =
     record {
       written = other_appended (λ v. v.items) (λ v. vec_capacity v - vec_len v) _ _ _ _ _ _
           lacks.answer lacks.unchanged other.answer other.written other.unchanged;
+      capacity = other.capacity ∙ lacks.capacity;
     }

@@ -6,6 +6,7 @@ use Rattle.coap_serve.proofs.door.parts.answer_each.Goals as goal
 pub loop-count-init : goal.loop-count-init
 loop-count-init g c = record {
   given = none_given (g.M.Monitor.follows c.args.monitor.now) (g.A.Application.follows c.args.application.now);
+  capacity = omega arith;
   kept = sleep_same;
 }
 
@@ -19,6 +20,7 @@ loop-count-preserved g c =
           (g.M.Monitor.follows c.answer_once.new.monitor) (g.A.Application.follows c.args.application.now)
           (g.A.Application.follows c.loop-count.application) (g.A.Application.follows c.answer_once.new.application)
           one.requested.0 so_far.given one.requested.1 one.requested.2 refl;
+      capacity = omega (arith, so_far.capacity, one.capacity);
       kept = sleep_then so_far.kept one.kept;
     }
 

@@ -1,3 +1,4 @@
+use Rattle.std.proofs.Common.{◌≤◌, vec_capacity}
 use Rattle.coap_serve.specs.Prelude.{AnswersMore, FollowsMore, SleepOn}
 use Rattle.coap_serve.proofs.listener.LaterLemmas.{HasGivenLater}
 use Rattle.coap_serve.proofs.door.parts.answer_each.Given as goal
@@ -9,5 +10,6 @@ invariant-loop-count g l =
       given : HasGivenLater l.fn.server l.count l.server
           (FollowsMore (g.M.Monitor.follows l.fn.monitor) (g.M.Monitor.follows l.monitor))
           (AnswersMore (g.A.Application.follows l.fn.application) (g.A.Application.follows l.application));
+      capacity : vec_capacity l.fn.response ≤ vec_capacity l.response;
       kept : SleepOn l.fn.awake l.awake l.fn.server l.server;
     }

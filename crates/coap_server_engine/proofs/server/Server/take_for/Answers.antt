@@ -46,15 +46,15 @@ returns-in_default-clause-ok g c =
     (rw c.in_default.is at e.unrequested)
 
 pub give_at_once-requires : goal.give_at_once-requires
-give_at_once-requires g c = rw c.in-Ok.ensures.ok (taken_stays c.args.self.now _ _ _ c.requires)
+give_at_once-requires g c = rw c.in-Ok.ensures.ok (taken_stays c.args.self.now _ _ _ c.requires.lies)
 
 pub returns-in_default-clause-lies : goal.returns-in_default-clause-lies
-returns-in_default-clause-lies g c = rw c.in-Ok.ensures.ok (taken_stays c.args.self.now _ _ _ c.requires)
+returns-in_default-clause-lies g c = rw c.in-Ok.ensures.ok (taken_stays c.args.self.now _ _ _ c.requires.lies)
 
 pub returns-in-Some-clause-affected : goal.returns-in-Some-clause-affected
 returns-in-Some-clause-affected g c =
     rw (c.give_at_once.ensures.after, c.in-Ok.ensures.ok)
-    (adds_offered c.args.self.now _ _ _ _ _ _ c.requires c.in-Ok.ensures.affected)
+    (adds_offered c.args.self.now _ _ _ _ _ _ c.requires.lies c.in-Ok.ensures.affected)
 
 pub returns-in_default-clause-affected : goal.returns-in_default-clause-affected
 returns-in_default-clause-affected g c = rw c.in-Ok.ensures.ok c.in-Ok.ensures.affected

@@ -1,8 +1,9 @@
-use Rattle.std.proofs.Common.{sym}
+use Rattle.std.proofs.Common.{sym, arith, ap}
 use Rattle.coap_server_engine.proofs.values.ServerLemmas.{is_there_at}
 use Rattle.coap_serve.specs.Prelude.{session_of}
 use Rattle.coap_serve.proofs.listener.ServingLemmas.{work_left}
 use Rattle.coap_serve.proofs.listener.SleepLemmas.{none_asleep, paired_left}
+use Rattle.coap_serve.proofs.listener.ConfigLemmas.{keeps_room}
 use Rattle.coap_serve.proofs.door.service.Service.drop_conn.Goals as goal
 
 pub accepted-requires : goal.accepted-requires
@@ -15,5 +16,6 @@ pub invariant_of-self : goal.invariant_of-self
 invariant_of-self g c = record {
   paired = λ ready. paired_left (c.args.self.now.paired ready) c.args.id _ c.drop_conn.ensures.settled
       c.in-Some.ensures.at c.in-Ok.ensures.ok c.shift_remove.ensures.entries c.shift_remove.ensures.unique;
+  room = keeps_room (ap (λ v. v.config) c.in-Ok.ensures.ok) (omega arith) c.args.self.now.room;
   asleep = λ ready. none_asleep g.W.Ready.readable g.W.Ready.writable c.wake_all.ensures;
 }

@@ -1,4 +1,6 @@
+use Rattle.std.proofs.Common.{ap, arith, ◌∙◌}
 use Rattle.coap_serve.proofs.listener.SweepLemmas.{made_before, unswept_made}
+use Rattle.coap_serve.proofs.listener.ConfigLemmas.{keeps_room, swept_config}
 use Rattle.coap_serve.proofs.door.service.Service.end_silent.Goals as goal
 
 pub returns-in_default-clause-swept : goal.returns-in_default-clause-swept
@@ -11,3 +13,9 @@ returns-then-second-last-clause-swept g c =
 
 pub sweep-requires : goal.sweep-requires
 sweep-requires g c = c.args.self.now.paired c.requires
+
+pub invariant_of-self-2-clause-room : goal.invariant_of-self-2-clause-room
+invariant_of-self-2-clause-room g c =
+    let v = c.args.self.now in
+    keeps_room (ap (λ u. u.config) c.sweep.ensures.has.server
+    ∙ swept_config c.in-Some.idle c.args.second v.server v.peers.entries) (omega arith) v.room

@@ -1,4 +1,6 @@
+use Rattle.std.proofs.Common.{arith, refl}
 use Rattle.coap_serve.proofs.listener.SleepLemmas.{asleep_on, kept_or_not, paired_on, sleep_joined}
+use Rattle.coap_serve.proofs.listener.ConfigLemmas.{config_or_not, keeps_room}
 use Rattle.coap_serve.proofs.door.service.Service.remove.Goals as goal
 
 pub invariant_of-self : goal.invariant_of-self
@@ -7,6 +9,8 @@ invariant_of-self g c =
     c.remove.ensures.ok c.remove.ensures.err in
     record {
       paired = λ ready. paired_on (c.args.self.now.paired ready) kept.keys;
+      room = keeps_room (config_or_not c.remove.result c.args.self.now.server c.remove.new.self _ refl
+          c.remove.ensures.ok c.remove.ensures.err) (omega arith) c.args.self.now.room;
       asleep = λ ready. asleep_on g.W.Ready.readable g.W.Ready.writable (sleep_joined kept c.join.ensures)
           (c.args.self.now.paired ready) (c.args.self.now.asleep ready);
     }

@@ -1,13 +1,17 @@
-use Rattle.std.proofs.Common.{◌≡◌, arith, refl, subst}
+use Rattle.std.proofs.Common.{◌≡◌, ◌∙◌, arith, refl, subst}
 use Rattle.coap_serve.specs.Prelude.{MaySleep, journal, peer_status, set_value_at}
 use Rattle.coap_serve.proofs.listener.EntryLemmas.{length_written, set_there}
 use Rattle.coap_serve.proofs.listener.RoundLemmas.{one_open, one_over}
 use Rattle.coap_serve.proofs.listener.ServingLemmas.{both_made}
 use Rattle.coap_serve.proofs.listener.SleepLemmas.{asleep_beside, lies_there, looked_at, looked_sleeps, paired_written}
+use Rattle.coap_serve.proofs.listener.ConfigLemmas.{keeps_room, served_same}
 use Rattle.coap_serve.proofs.door.service.Service.serve_next.Goals as goal
 
 pub serve_peer-requires : goal.serve_peer-requires
-serve_peer-requires g c = record { lies = lies_there c.requires.paired c.args.at c.pair_mut-peer.ensures.value }
+serve_peer-requires g c = record {
+  lies = lies_there c.requires.paired c.args.at c.pair_mut-peer.ensures.value;
+  room = c.args.self.now.room;
+}
 
 pub overflow_add-result : goal.overflow_add-result
 overflow_add-result g c = omega (arith, c.requires.there, c.requires.fits)
@@ -73,3 +77,20 @@ returns-in-Open-clause-asleep g c =
     (looked_sleeps c.record_look.new.self c.args.at (peer_status readable writable c.serve_peer.new.server looked.0) _
     looked.3 (rw looked.2 at c.record_look.ensures.awake) outside))
     c.requires.asleep
+
+-- Allocation failed.
+pub invariant_of-self : goal.invariant_of-self
+invariant_of-self g c = record {
+  paired = λ ready. absurd (cc (ready, c.requires.spent));
+  room = keeps_room (served_same c.serve_peer.ensures.shows) c.serve_peer.ensures.capacity c.args.self.now.room;
+  asleep = λ ready. absurd (cc (ready, c.requires.spent));
+}
+
+pub invariant_of-self-in-Over-clause-room : goal.invariant_of-self-in-Over-clause-room
+invariant_of-self-in-Over-clause-room g c =
+    keeps_room (served_same c.drop_at.ensures.shows ∙ served_same c.serve_peer.ensures.shows)
+    c.serve_peer.ensures.capacity c.args.self.now.room
+
+pub invariant_of-self-in-Open-clause-room : goal.invariant_of-self-in-Open-clause-room
+invariant_of-self-in-Open-clause-room g c =
+    keeps_room (served_same c.serve_peer.ensures.shows) c.serve_peer.ensures.capacity c.args.self.now.room

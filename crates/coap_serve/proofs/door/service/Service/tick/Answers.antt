@@ -1,7 +1,8 @@
-use Rattle.std.proofs.Common.{◌∙◌}
+use Rattle.std.proofs.Common.{◌∙◌, arith, refl}
 use Rattle.coap_server_engine.proofs.scripting.FollowLemmas.{followed_none}
 use Rattle.coap_serve.proofs.listener.RunLemmas.{none_ticked, same_time}
 use Rattle.coap_serve.proofs.listener.SleepLemmas.{asleep_on, kept_or_not, paired_on, sleep_joined}
+use Rattle.coap_serve.proofs.listener.ConfigLemmas.{config_or_not, keeps_room}
 use Rattle.coap_serve.proofs.door.service.Service.tick.Goals as goal
 
 pub invariant_of-self-2 : goal.invariant_of-self-2
@@ -10,6 +11,8 @@ invariant_of-self-2 g c =
     c.tick.ensures.ok c.tick.ensures.err in
     record {
       paired = λ ready. paired_on (c.args.self.now.paired ready) kept.keys;
+      room = keeps_room (config_or_not c.tick.result c.args.self.now.server c.tick.new.self _ refl c.tick.ensures.ok
+          c.tick.ensures.err) (omega arith) c.args.self.now.room;
       asleep = λ ready. asleep_on g.W.Ready.readable g.W.Ready.writable (sleep_joined kept c.join.ensures)
           (c.args.self.now.paired ready) (c.args.self.now.asleep ready);
     }
