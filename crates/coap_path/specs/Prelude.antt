@@ -23,7 +23,7 @@ pub use Rattle.coap_path.specs.declared.path_match.PathMatch.TheVariants.{Elsewh
 pub use Rattle.coap_path.specs.Applications.{ApplicationEntryValue, ApplicationsValue, begins_with, entry_for}
 pub use Rattle.coap_path.specs.Applications.{longer_entry}
 unfoldable pub use Rattle.coap_path.specs.Applications.{is_answered}
-pub use Rattle.coap_path.specs.Attributes.{is_alphanumeric, is_quoted_char, scan_after, scan_with, may_end}
+pub use Rattle.coap_path.specs.Attributes.{is_quoted_char, scan_after, scan_with, may_end}
 pub use Rattle.coap_path.specs.Attributes.{after_name, after_name_start, after_quoted, after_token}
 pub use Rattle.coap_path.specs.Attributes.{after_value_start}
 unfoldable pub use Rattle.coap_path.specs.Attributes.{is_name_char, is_token_char, are_attributes}

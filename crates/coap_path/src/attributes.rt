@@ -1,8 +1,7 @@
 //! The attributes of a link (RFC 6690 section 2), checked byte by byte.
 
-ghost use Rattle.std.specs.Prelude.{◌≡◌, ◌==◌, if◌then◌else◌};
-ghost use Rattle.std.specs.List.{list_any};
-ghost use Rattle.coap_path.specs.Prelude.{is_alphanumeric as is_letter_or_digit, is_name_char, is_token_char};
+ghost use Rattle.std.specs.Prelude.{◌≡◌, if◌then◌else◌};
+ghost use Rattle.coap_path.specs.Prelude.{is_name_char, is_token_char};
 ghost use Rattle.coap_path.specs.Prelude.{is_quoted_char, are_attributes as is_text, scan_with};
 ghost use Rattle.coap_path.specs.Prelude.{may_end as is_end, after_name_start, after_name, after_value_start};
 ghost use Rattle.coap_path.specs.Prelude.{after_token, after_quoted};
@@ -38,26 +37,12 @@ pub(crate) enum AttributeScan {
     Rejected,
 }
 
-fn is_alphanumeric(byte: u8) -> bool
-    ensures { result ≡ is_letter_or_digit byte }
-{
-    (b'0' <= byte && byte <= b'9')
-        || (b'A' <= byte && byte <= b'Z')
-        || (b'a' <= byte && byte <= b'z')
-}
-
-fn is_one_of(set: &[u8], byte: u8) -> bool
-    ensures { result ≡ list_any (λ c. c == byte) set.now }
-{
-    set.contains(&byte)
-}
-
 /// Returns `true` if a name can have this byte.
 #[tactic(auto, unfolding(crate::specs::Attributes::is_name_char))]
 fn is_of_name(byte: u8) -> bool
     ensures { result ≡ is_name_char byte }
 {
-    is_alphanumeric(byte) || is_one_of(b"!#$&+-.^_`|~", byte)
+    byte.is_ascii_alphanumeric() || b"!#$&+-.^_`|~".contains(&byte)
 }
 
 /// Returns `true` if a token can have this byte.
@@ -65,7 +50,7 @@ fn is_of_name(byte: u8) -> bool
 fn is_of_token(byte: u8) -> bool
     ensures { result ≡ is_token_char byte }
 {
-    is_alphanumeric(byte) || is_one_of(b"!#$%&'()*+-./:<=>?@[]^_`{|}~", byte)
+    byte.is_ascii_alphanumeric() || b"!#$%&'()*+-./:<=>?@[]^_`{|}~".contains(&byte)
 }
 
 /// Returns `true` if a quoted string can have this byte, if need be after a `\`.

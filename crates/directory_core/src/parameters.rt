@@ -42,12 +42,7 @@ pub(crate) fn endpoint_key(sector: &[u8], name: &[u8]) -> Option<EndpointKey>
 fn is_of_scheme(byte: u8) -> bool
     ensures { result ≡ is_scheme_char byte }
 {
-    (b'0' <= byte && byte <= b'9')
-        || (b'A' <= byte && byte <= b'Z')
-        || (b'a' <= byte && byte <= b'z')
-        || byte == b'+'
-        || byte == b'-'
-        || byte == b'.'
+    byte.is_ascii_alphanumeric() || byte == b'+' || byte == b'-' || byte == b'.'
 }
 
 fn is_of_authority(byte: u8) -> bool

@@ -1,6 +1,6 @@
 -- Names for the contracts and proofs of the crate, re-exported from one place. This file defines nothing.
 pub use Rattle.std.specs.Iterator.{YieldsFirst, YieldsFirstBy, item_count}
-pub use Rattle.directory_links.specs.Characters.{is_alphanumeric, is_quoted_char, is_same_name}
+pub use Rattle.directory_links.specs.Characters.{is_quoted_char, is_same_name}
 unfoldable pub use Rattle.directory_links.specs.Characters.{is_name_char, is_token_char, is_target_char}
 pub use Rattle.directory_links.specs.Links.{AttributeValue, NoValue, ExtendedValue, TokenValue, QuotedValue, Attribute}
 pub use Rattle.directory_links.specs.Links.{Link}

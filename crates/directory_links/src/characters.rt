@@ -1,31 +1,17 @@
 //! Characters of a text in link format (RFC 6690 section 2).
 
-ghost use Rattle.std.specs.Prelude.{◌≡◌, ◌≤◌, ◌==◌, length};
-ghost use Rattle.std.specs.List.{list_any, list_all, prefix_len};
-ghost use Rattle.directory_links.specs.Prelude.{is_alphanumeric as is_letter_or_digit, is_name_char, is_token_char};
+ghost use Rattle.std.specs.Prelude.{◌≡◌, ◌≤◌, length};
+ghost use Rattle.std.specs.List.{list_all, prefix_len};
+ghost use Rattle.directory_links.specs.Prelude.{is_name_char, is_token_char};
 ghost use Rattle.directory_links.specs.Prelude.{is_quoted_char, is_target_char as is_char_of_target};
 ghost use Rattle.directory_links.specs.Prelude.{is_parmname as is_name, is_same_name as are_same};
-
-fn is_alphanumeric(byte: u8) -> bool
-    ensures { result ≡ is_letter_or_digit byte }
-{
-    (b'0' <= byte && byte <= b'9')
-        || (b'A' <= byte && byte <= b'Z')
-        || (b'a' <= byte && byte <= b'z')
-}
-
-fn is_one_of(set: &[u8], byte: u8) -> bool
-    ensures { result ≡ list_any (λ c. c == byte) set.now }
-{
-    set.contains(&byte)
-}
 
 /// Returns `true` if a name can have this byte.
 #[tactic(auto, unfolding(crate::specs::Characters::is_name_char))]
 fn is_of_name(byte: u8) -> bool
     ensures { result ≡ is_name_char byte }
 {
-    is_alphanumeric(byte) || is_one_of(b"!#$&+-.^_`|~", byte)
+    byte.is_ascii_alphanumeric() || b"!#$&+-.^_`|~".contains(&byte)
 }
 
 fn all_of_name(text: &[u8]) -> bool
@@ -58,7 +44,7 @@ pub fn is_same_name(one: &[u8], other: &[u8]) -> bool
 fn is_of_token(byte: u8) -> bool
     ensures { result ≡ is_token_char byte }
 {
-    is_alphanumeric(byte) || is_one_of(b"!#$%&'()*+-./:<=>?@[]^_`{|}~", byte)
+    byte.is_ascii_alphanumeric() || b"!#$%&'()*+-./:<=>?@[]^_`{|}~".contains(&byte)
 }
 
 /// Returns `true` if the target of a link can have this byte: a character of a URI (RFC 3986 section 2).
@@ -66,7 +52,7 @@ fn is_of_token(byte: u8) -> bool
 pub fn is_target_char(byte: u8) -> bool
     ensures { result ≡ is_char_of_target byte }
 {
-    is_alphanumeric(byte) || is_one_of(b"-._~:/?#[]@!$&'()*+,;=%", byte)
+    byte.is_ascii_alphanumeric() || b"-._~:/?#[]@!$&'()*+,;=%".contains(&byte)
 }
 
 /// Returns `true` if a quoted string can have this byte, if need be after a `\`.
