@@ -1,6 +1,6 @@
 //! Transport connections, the listener that hands them out, and the clock.
 
-ghost use Rattle.std.specs.Prelude.{◌≡◌, ℕ, Bool, List, [], ◌∷◌, length, Option, None, option_and_then};
+ghost use Rattle.std.specs.Prelude.{◌≡◌, ◌≤◌, ℕ, Bool, List, [], ◌∷◌, length, Option, None, option_and_then};
 ghost use Rattle.coap_io.specs.Prelude.{AddsBytes, AddsCalls, DoorCall, Requested, Waited, IsWithin, MatchesTrace};
 ghost use Rattle.coap_io.specs.Prelude.{bytes_passed, Got, wait_at_most};
 
@@ -34,7 +34,12 @@ pub trait Wire {
 
     /// Reads at least 1 and at most `buffer.len()` bytes to the start of `buffer`. Returns `Later` if no byte is
     /// available now, `End` if the peer sends nothing more, and `Failed` if reading fails.
+    ///
+    /// # Preconditions
+    ///
+    /// `buffer` is not empty.
     fn read(&mut self, buffer: &mut [u8]) -> Got
+        requires room { 1 ≤ length buffer.old }
         ensures within { IsWithin (length buffer.new) result }
         ensures gave { AddsBytes (given self.old) (given self.new) (bytes_passed buffer.new result) }
         ensures wrote { AddsBytes (written self.old) (written self.new) [] }
@@ -43,7 +48,12 @@ pub trait Wire {
 
     /// Writes a prefix of `bytes`, at least 1 byte. Returns `Later` if no byte can be written now, and `Failed` or
     /// `End` if writing fails.
+    ///
+    /// # Preconditions
+    ///
+    /// `bytes` is not empty.
     fn write(&mut self, bytes: &[u8]) -> Got
+        requires some { 1 ≤ length bytes.now }
         ensures within { IsWithin (length bytes.now) result }
         ensures wrote { AddsBytes (written self.old) (written self.new) (bytes_passed bytes.now result) }
         ensures gave { AddsBytes (given self.old) (given self.new) [] }

@@ -1,6 +1,6 @@
 //! `LoggedWire`, a wire whose messages are written to a log.
 
-ghost use Rattle.std.specs.Prelude.{◌≡◌, ◌++◌, IfOk, [], ◌∷◌, true, length, codes};
+ghost use Rattle.std.specs.Prelude.{◌≡◌, ◌≤◌, ◌++◌, IfOk, [], ◌∷◌, true, length, codes};
 ghost use Rattle.coap_io.specs.Prelude.{AddsBytes, AddsCalls, IsWithin, bytes_passed};
 ghost use Rattle.coap_io.specs.streams.Wires.{write_outcome};
 ghost use Rattle.coap_print.specs.Texts.{is_text};
@@ -114,6 +114,7 @@ impl<'a, W: Wire, L: LogWriter, C: time::Clock> Wire for LoggedWire<'a, W, L, C>
     ghost rooms = { λ logged. W.rooms logged.wire };
 
     fn read(&mut self, buffer: &mut [u8]) -> Got
+        requires room { 1 ≤ length buffer.old }
         ensures within { IsWithin (length buffer.new) result }
         ensures gave { AddsBytes (W.given self.old.wire) (W.given self.new.wire) (bytes_passed buffer.new result) }
         ensures wrote { AddsBytes (W.written self.old.wire) (W.written self.new.wire) [] }
@@ -142,6 +143,7 @@ impl<'a, W: Wire, L: LogWriter, C: time::Clock> Wire for LoggedWire<'a, W, L, C>
     }
 
     fn write(&mut self, bytes: &[u8]) -> Got
+        requires some { 1 ≤ length bytes.now }
         ensures within { IsWithin (length bytes.now) result }
         ensures wrote { AddsBytes (W.written self.old.wire) (W.written self.new.wire)
             (bytes_passed bytes.now result) }

@@ -1,6 +1,7 @@
 //! Output of a run: the request, the cancellation of its observation, and one write to the wire.
 
-ghost use Rattle.std.specs.Prelude.{◌≡◌, ◌++◌, ◌∷◌, ℕ, List, false, is_err, [], option_map, IfOk, IfSome, OnOk};
+ghost use Rattle.std.specs.Prelude.{◌≡◌, ◌≤◌, ◌++◌, ◌∷◌, ℕ, List, length, [], false};
+ghost use Rattle.std.specs.Prelude.{is_err, option_map, IfOk, IfSome, OnOk};
 ghost use Rattle.coap_client_engine.specs.Prelude.{AddsCalls, bytes_passed, count_passed, AddsBytes};
 ghost use Rattle.coap_client_engine.specs.Prelude.{IsStatus, ClientCall, ClientShows, with_wire, Flushes};
 ghost use Rattle.coap_client_engine.specs.ClientValues as value;
@@ -138,6 +139,7 @@ impl Run {
 
     /// Writes the first contiguous queued bytes once, and removes those that the wire accepted from the queue.
     fn write<W: Wire>(&mut self, wire: &mut W) -> Got
+        requires some { 1 ≤ length self.old.client.link.waiting }
         ensures client { self.new.client ≡ value.client_written self.old.client (count_passed result) }
         ensures shows { (tokens : ℕ) (calls : List ClientCall) → ClientShows self.old.client tokens calls →
             ClientShows self.new.client tokens (calls ++ spec.calls_written result) }

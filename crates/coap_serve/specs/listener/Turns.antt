@@ -27,7 +27,7 @@ use Rattle.coap_io.specs.declared.read_buffer.TheConstants.{READ_SIZE}
 abbrev pub is_read_due : (may_read : Bool) → ServerValue → ℕ → List ℕ → Bool
 is_read_due may_read v id rest = may_read && (length rest == 0) && can_take_on (session_of id v.sessions)
 
--- The bytes that are offered to a write: all queued bytes if the wire may be written, otherwise none.
+-- The bytes of which a write is offered some: all queued bytes if the wire may be written, otherwise none.
 abbrev pub waiting_once : (may_write : Bool) → ℕ → ServerValue → List ℕ
 waiting_once may_write id v = if may_write then waiting_at id v else []
 
