@@ -1,7 +1,8 @@
 //! The calls by which a program learns which connection has output, and when a `tick` is needed, for C.
 
+ghost use Rattle.std.specs.Prelude.{ℕ};
 ghost use Rattle.c_api.specs.ServerCalls.{IsNextDeadline, IsNextOutput, yielded_by};
-ghost use Rattle.coap_server_polled.specs.Reports.{Reports};
+ghost use Rattle.coap_server_polled.specs.Reports.{IsReportedIn, Reports};
 
 use crate::numbers::{EMPTY, NO_MORE, SUCCESS};
 use crate::server_handle::ServerHandle;
@@ -17,6 +18,7 @@ pub extern "C" fn dachreup_server_next_output(
 ) -> u32
     ensures call { IsNextOutput id.old id.new handle.old.value handle.new.value result }
     ensures output { Reports (yielded_by result id.new) handle.old.value handle.new.value }
+    ensures kept { (id : ℕ) → IsReportedIn id handle.old.value → IsReportedIn id handle.new.value }
 {
     let Some(mut server) = handle.take_server(alloc) else {
         return EMPTY;
