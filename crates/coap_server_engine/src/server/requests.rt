@@ -154,6 +154,7 @@ impl Server {
             IsRefusedFor self.old.config events index.id piece.now fault) }
         ensures affected { OnOk result (AddsAffected index.id affected.old.words affected.new.words self.old
             (server_taken self.old index.id piece.now)) }
+        ensures unaffected { OnErr result (affected.new ≡ affected.old) }
     {
         let takes = self.sessions[index.at].takes();
         match self.sessions[index.at].take(&mut self.shared, piece) {

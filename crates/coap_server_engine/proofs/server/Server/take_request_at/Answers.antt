@@ -101,6 +101,7 @@ returns-in-Err c =
         alters = tt;
         refused_for = refused_for (taking.Memory c.in-Err.bytes) _ _ id piece (refuses, value);
         affected = tt;
+        unaffected = refl;
       },
     )
 
@@ -209,5 +210,6 @@ returns-in-Ok c =
         alters = take_alters v _ id piece c.in-Ok.taking.count _ alters ok shows;
         refused_for = tt;
         affected = affected;
+        unaffected = tt;
       },
     )
