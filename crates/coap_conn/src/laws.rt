@@ -2,7 +2,7 @@
 
 ghost use Rattle.std.specs.Prelude.{◌≡◌, ℕ, ◌+◌, ◌<◌, ◌≤◌, ◌&&◌, List, [], ◌∷◌, ◌++◌, length, Bool, true, false};
 ghost use Rattle.std.specs.Prelude.{Option, Some, None};
-ghost use Rattle.coap_conn.specs.Prelude.{BASE_MESSAGE_SIZE, AllByRecursion, list_any, Message, own_csm};
+ghost use Rattle.coap_conn.specs.Prelude.{AllByRecursion, list_any, Message, own_csm};
 ghost use Rattle.coap_conn.specs.Prelude.{bad_csm_option, has_critical_option, announcement, announced};
 ghost use Rattle.coap_conn.specs.Prelude.{token_announcement, announced_token, AllFit, LimitValues, AreInRange};
 ghost use Rattle.coap_conn.specs.Prelude.{History, AnnouncedFirst, link_of, new_history, limit_now, state_now};
@@ -27,7 +27,7 @@ ghost use Rattle.coap_conn.specs.declared.phase.Phase.TheVariants.{Waiting, Open
 /// (RFC 8974 section 2.2.1).
 pub fn last_announcement_counts()
     ensures none { (ms : List Message) → AllByRecursion (λ m. announcement m ≡ None) ms
-        → announced ms ≡ BASE_MESSAGE_SIZE }
+        → announced ms ≡ 1152 }
     ensures last { (before after : List Message) (m : Message) (n : ℕ) → announcement m ≡ Some n →
         AllByRecursion (λ m. announcement m ≡ None) after → announced (before ++ m ∷ after) ≡ n }
     ensures no_token { (ms : List Message) → AllByRecursion (λ m. token_announcement m ≡ None) ms →
@@ -213,7 +213,8 @@ pub fn forgotten_entries_are_gone()
 {}
 
 /// States that tokens do not repeat (RFC 7252 section 5.3.1). The number of a token is one more than that of the last
-/// token, and different numbers of 64 bits give different tokens. Only requests and Pings take a new token.
+/// token, and different numbers of 64 bits give different tokens. Only requests and Pings take a new token. A token has
+/// at most 8 bytes, which every peer accepts (RFC 8974 section 2.2).
 pub fn tokens_are_new()
     ensures different { (one other : ℕ) → one < 18446744073709551615 → other < 18446744073709551615 →
         next_token one ≡ next_token other → one ≡ other }
@@ -222,4 +223,5 @@ pub fn tokens_are_new()
     ensures given { (h : History) (m : Message) (e : OutstandingValue) → asking_refusal (asking_now h) m ≡ None →
         (after_asking h m e).tokens ≡ h.tokens + 1 }
     ensures others { (h : History) (c : Call) → gives_token c ≡ false → (after h c).tokens ≡ h.tokens }
+    ensures short { (n : ℕ) → length (next_token n) ≤ 8 }
 {}

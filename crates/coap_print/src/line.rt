@@ -16,6 +16,8 @@ pub const LINE_LENGTH: usize = 1_024;
 /// Number of bytes that a line has for text. The others are reserved for the ellipsis.
 const TEXT_LENGTH: usize = LINE_LENGTH - 3;
 
+const _: () = prove!(LINE_LENGTH == 1_024);
+
 /// Line of at most `LINE_LENGTH` bytes, all of them printable ASCII. Contracts see the list of its bytes.
 ///
 /// A piece of text that does not fit is cut, and the line ends with `...`. Such a line is closed: it accepts nothing

@@ -1,5 +1,5 @@
 -- The bytes of a number encode that number.
-use Rattle.std.proofs.Common.{◌≡◌, ℕ, zero, suc, ◌<◌, ◌^◌, List, [], ◌∷◌, refl, sym, ap, ◌∙◌, arith}
+use Rattle.std.proofs.Common.{◌≡◌, ℕ, zero, suc, ◌<◌, ◌≤◌, ◌^◌, List, [], ◌∷◌, length, refl, sym, ap, ◌∙◌, arith}
 use Rattle.std.proofs.lemmas.Nat.{from_be_bytes-to_be_bytes_8}
 use Rattle.std.specs.Int.{byte_at}
 use Rattle.coap_wire.specs.Prelude.{w32, w64, to_be_bytes, uint_of, without_leading_zeros, bytes_of_uint}
@@ -21,6 +21,17 @@ uint_of_bytes n fits = zeros_mean_nothing (to_be_bytes w64 n) ∙ all_bytes_mean
 -- Numbers with equal encodings are equal.
 pub bytes_are_one : (m n : ℕ) → m < 2 ^ 64 → n < 2 ^ 64 → bytes_of_uint m ≡ bytes_of_uint n → m ≡ n
 bytes_are_one m n p q same = sym (uint_of_bytes m p) ∙ ap uint_of same ∙ uint_of_bytes n q
+
+-- Without leading zeros, a list is no longer.
+zeros_shorten : (bytes : List ℕ) → length (without_leading_zeros bytes) ≤ length bytes
+zeros_shorten [] = omega arith
+zeros_shorten (zero ∷ bytes) = omega (arith, zeros_shorten bytes)
+zeros_shorten (suc b ∷ bytes) = omega arith
+
+-- The shortest encoding of a number has at most 8 bytes.
+pub eight_bytes_at_most : (n : ℕ) → length (bytes_of_uint n) ≤ 8
+unfolding bytes_of_uint
+eight_bytes_at_most n = zeros_shorten (to_be_bytes w64 n)
 
 -- ---- numbers below 2^32
 

@@ -190,12 +190,13 @@ pub fn unfinished_beginning_needs_more_bytes()
         prefix_kind M (s ++ b ∷ []) ≡ Faulty fault → fault_bytes (s ++ b ∷ []) ≡ s ++ b ∷ [] }
 {}
 
-/// States that the bytes of a number below 2^64 encode it, so numbers with equal bytes are equal (RFC
-/// 7252 section 3.2).
-#[tactic(auto, using(crate::proofs::UintLaws::uint_of_bytes, crate::proofs::UintLaws::bytes_are_one))]
+/// States that the bytes of a number below 2^64 encode it, so numbers with equal bytes are equal. They are at most 8
+/// (RFC 7252 section 3.2).
+#[tactic(auto, using(crate::proofs::UintLaws::uint_of_bytes, crate::proofs::UintLaws::bytes_are_one, crate::proofs::UintLaws::eight_bytes_at_most))]
 pub fn bytes_of_a_number_mean_it()
     ensures mean { (n : ℕ) → n < 2 ^ 64 → uint_of (bytes_of_uint n) ≡ n }
     ensures distinct { (m n : ℕ) → m < 2 ^ 64 → n < 2 ^ 64 → bytes_of_uint m ≡ bytes_of_uint n → m ≡ n }
+    ensures short { (n : ℕ) → length (bytes_of_uint n) ≤ 8 }
 {}
 
 /// States that in an ordered list, an option is the first with its number if and only if the one before has another.

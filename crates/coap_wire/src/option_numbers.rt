@@ -47,3 +47,22 @@ pub const PROXY_SCHEME: u16 = 39;
 
 /// Size1 (RFC 7252 section 5.10.9).
 pub const SIZE1: u16 = 60;
+
+const _: () = prove!(
+    IF_MATCH == 1
+        && URI_HOST == 3
+        && ETAG == 4
+        && IF_NONE_MATCH == 5
+        && OBSERVE == 6
+        && URI_PORT == 7
+        && LOCATION_PATH == 8
+        && URI_PATH == 11
+        && CONTENT_FORMAT == 12
+        && MAX_AGE == 14
+        && URI_QUERY == 15
+        && ACCEPT == 17
+        && LOCATION_QUERY == 20
+        && PROXY_URI == 35
+        && PROXY_SCHEME == 39
+        && SIZE1 == 60
+);

@@ -18,3 +18,12 @@ pub const DEFAULT_QUEUE: usize = 131_072;
 /// Largest option delta, option length (RFC 7252 section 3.1) or token length (RFC 8974 section 2.1) that a nibble and
 /// its extension can encode.
 pub const MAX_EXTENDED_LENGTH: usize = 65_804;
+
+const _: () = prove!(
+    BASE_MESSAGE_SIZE == 1_152
+        && LARGEST_MESSAGE == 1_048_576
+        && LARGEST_SENT_MESSAGE == 65_536
+        && LARGEST_QUEUE == 4_194_304
+        && DEFAULT_QUEUE == 131_072
+        && MAX_EXTENDED_LENGTH == 65_804
+);

@@ -24,11 +24,14 @@ fn fill<S: Sink>(rt: &impl Abort, sink: &mut S) -> Result<(), Fail> {
 
 #[test]
 fn writes_into_a_slice(rt: HostRuntime) -> Result<(), Fail> {
-    let mut bytes = [0; 10];
+    let mut bytes = [0x99; 10];
     let mut sink = SliceSink::new(&mut bytes);
     fill(&rt, &mut sink)?;
     assert!(&rt; sink.room() == 1);
     assert!(&rt; sink.written() == FILLED.as_slice());
+    // The slice keeps what was written, and the byte after it is unchanged.
+    assert!(&rt; bytes.get(..9) == Some(FILLED.as_slice()));
+    assert!(&rt; bytes.last() == Some(&0x99));
     Ok(())
 }
 

@@ -1,7 +1,8 @@
 //! The lines that report the results of events. A `ShortLine` is built without memory. A call for another line fails
 //! only if allocation fails.
 
-ghost use Rattle.std.specs.Prelude.{◌≡◌, ◌≤◌, ◌+◌, ◌++◌, IfOk, OnOk, codes, decimal, length, string_bytes};
+ghost use Rattle.std.specs.Prelude.{◌≡◌, ◌≤◌, ◌+◌, ◌++◌, ℕ, List, IfOk, OnErr, OnOk, codes, decimal, length};
+ghost use Rattle.std.specs.Prelude.{string_bytes};
 ghost use Rattle.coap_script.specs.Prelude.{array_vec_len};
 ghost use Rattle.coap_script.specs.script.Lines as spec;
 
@@ -81,7 +82,8 @@ fn line_front(word: &[u8], id: u64) -> ShortLine
 
 /// Appends bytes in hexadecimal, or a hyphen if there are none.
 fn append_bytes(line: &mut Vec<u8>, bytes: &[u8]) -> Result<(), AllocError>
-    ensures { OnOk result (line.new.items ≡ line.old.items ++ spec.bytes_text bytes.now) }
+    ensures ok { OnOk result (line.new.items ≡ line.old.items ++ spec.bytes_text bytes.now) }
+    ensures err { OnErr result (line.new.items ≡ line.old.items) }
 {
     if bytes.is_empty() {
         return line.extend_from_slice(b"-");
@@ -118,7 +120,8 @@ pub fn out_line(alloc: Global, id: u64, bytes: &[u8]) -> Result<Vec<u8>, AllocEr
 ///
 /// Returns `AllocError` if allocation fails. The lines may end with a part of the new line then.
 pub fn append_request_line(lines: &mut Vec<u8>, id: u64, request: &[u8]) -> Result<(), AllocError>
-    ensures { OnOk result (lines.new.items ≡ lines.old.items ++ spec.request_line id request.now) }
+    ensures ok { OnOk result (lines.new.items ≡ lines.old.items ++ spec.request_line id request.now) }
+    ensures err { OnErr result ((part : List ℕ) × (lines.new.items ≡ lines.old.items ++ part)) }
 {
     lines.reserve(request.len().saturating_mul(2).saturating_add(SHORT))?;
     lines.extend_from_slice(line_front(b"request ", id).as_slice())?;
