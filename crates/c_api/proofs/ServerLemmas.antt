@@ -2,12 +2,11 @@
 use Rattle.std.proofs.Common.{◌≡◌, ℕ, List, [], ◌∷◌, ◌++◌, Option, Some, None, refl, sym, ◌∙◌}
 use Rattle.coap_model.specs.world.Events.{AcceptedCall, Wrote}
 use Rattle.coap_server_engine.specs.values.ServerAnswers.{written_refusal}
-use Rattle.coap_server_engine.specs.values.Servers.{new_server, server_written}
+use Rattle.coap_server_engine.specs.values.Servers.{server_written}
 use Rattle.coap_server_engine.specs.world.Shows.{Shows}
-use Rattle.coap_model.specs.Configs.{ConfigValues}
 use Rattle.coap_server_polled.specs.Reports.{KeepsReported, Reports}
 use Rattle.coap_server_polled.specs.declared.polled_server.PolledServer.{PolledServer}
-use Rattle.coap_server_polled.proofs.ReportLemmas.{keeps_handle, keeps_new, keeps_none}
+use Rattle.coap_server_polled.proofs.ReportLemmas.{keeps_handle, keeps_none}
 use Rattle.c_api.specs.ServerCalls.{IsWritten}
 
 -- A `written` that succeeds, on the server `x` of the handle.
@@ -28,9 +27,9 @@ keeps_back h h' v is put = keeps_handle h h' (put ∙ sym is)
 pub ruleset keeps = (keeps_empty, keeps_back)
 
 -- The handle has a new server.
-pub keeps_made : (h h' : Option PolledServer) (v : PolledServer) (config : ConfigValues) → h' ≡ Some v
-    → v.engine ≡ new_server config → KeepsReported h h'
-keeps_made h h' v config put new = rw put (keeps_new h v config new)
+pub keeps_made : (h h' : Option PolledServer) (v : PolledServer) → h' ≡ Some v
+    → ((k : Option PolledServer) → KeepsReported k (Some v)) → KeepsReported h h'
+keeps_made h h' v put keeps = rw put (keeps h)
 
 nothing_reported : (yielded : Option ℕ) (h : Option PolledServer) → Reports yielded h None
 unfolding Reports

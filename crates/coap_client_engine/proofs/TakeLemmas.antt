@@ -1,8 +1,10 @@
 -- The event of a `take`: the token of a response is that of its message, and the frame is found again for its second
 -- parse.
-use Rattle.std.proofs.Common.{◌≡◌, ℕ, Bool, cond, List, [], ◌∷◌, ◌++◌, take, Option, Some, None, refl, sym, arith}
+use Rattle.std.proofs.Common.{◌≡◌, ℕ, Bool, cond, List, [], ◌∷◌, ◌++◌, take, Option, Some, None, IfSome, refl, sym}
+use Rattle.std.proofs.Common.{arith}
 use Rattle.coap_client_engine.specs.Prelude.{Message, StreamPrefix, Whole, prefix_kind, FramerValue, IsFramer, AFrame}
-use Rattle.coap_client_engine.specs.Prelude.{split_frame, framing_at, framing, framing_of, framer_after, frame_back}
+use Rattle.coap_client_engine.specs.Prelude.{FrameEventValue, found_frame, split_frame, framing_at, framing, framing_of}
+use Rattle.coap_client_engine.specs.Prelude.{framer_after, frame_back}
 use Rattle.coap_client_engine.specs.Prelude.{ConnectionState, live_reaction, react, VerdictValue, Reaction, Reason}
 use Rattle.coap_client_engine.specs.Prelude.{reports, aborts, csm_reaction, bad_csm_option, ping_reaction}
 use Rattle.coap_client_engine.specs.Prelude.{release_reaction, pong_reaction, request_reaction, response_reaction}
@@ -70,3 +72,11 @@ unfolding framing
 frame_is_back v piece frame is e =
     back_at v.kept piece frame (prefix_kind v.max (v.kept ++ piece)) (framing_of v piece).taken e
     (frame_taken v.max v.kept piece frame is.unfinished e)
+
+-- The same, if a frame was found.
+pub found_is_back : (v : FramerValue) (piece : List ℕ) (found : FrameEventValue) → IsFramer v
+    → (framing_of v piece).finding ≡ found
+    → IfSome (found_frame found)
+    (λ frame. frame_back (framer_after v piece).spent (take (framing_of v piece).taken piece) ≡ frame)
+found_is_back v piece (AFrame frame) is e = frame_is_back v piece frame is e
+found_is_back v piece found is e = tt

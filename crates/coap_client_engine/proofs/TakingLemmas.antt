@@ -1,13 +1,15 @@
 -- The framer and the link of a client treat an input slice as the definition `taking` says.
-use Rattle.std.proofs.Common.{◌≡◌, ℕ, true, false, List, None, refl, sym, ap, arith, ◌∙◌}
+use Rattle.std.proofs.Common.{◌≡◌, ℕ, true, false, List, take, None, IfSome, refl, sym, ap, arith, ◌∙◌}
 use Rattle.coap_client_engine.specs.Prelude.{FramerValue, IsFramer, Framing, FrameEventValue, framing, framing_of}
 use Rattle.coap_client_engine.specs.Prelude.{framer_after, LimitValues, is_open, fits, limit_in, own_csm, sizes_of}
 use Rattle.coap_client_engine.specs.Prelude.{link_after, raise_refusal, with_size, LinkValue, ClientValue, client_takes}
-use Rattle.coap_client_engine.specs.Prelude.{taking_found, taking, IsClient, taking_framed, Inside}
+use Rattle.coap_client_engine.specs.Prelude.{taking_found, taking, completed, IsClient, taking_framed, Inside}
+use Rattle.coap_client_engine.specs.Prelude.{frame_back}
 use Rattle.coap_frame.proofs.FramingLemmas.{framing_is_framer}
 use Rattle.coap_frame.proofs.RaiseLemmas.{raise_allowed, raised_is_framer}
 use Rattle.coap_conn.specs.Calls as call
 use Rattle.coap_client_engine.specs.EventViews.{client_value}
+use Rattle.coap_client_engine.proofs.TakeLemmas.{found_is_back}
 
 -- ---- the result of a slice
 
@@ -61,6 +63,11 @@ module _ (i : Inside) (v : ClientValue) (piece : List ℕ) (is : IsClient i) (vi
   unfolding taking
   takes_none not = rw not
 
+  -- No frame is completed.
+  pub completes_none : client_takes v ≡ false → completed v piece ≡ None
+  unfolding completed
+  completes_none not = rw not
+
   -- The framer and the link accept the bytes.
   pub takes_framed : client_takes v ≡ true → taking v piece ≡ taking_framed i.framer i.link piece
   unfolding taking
@@ -82,3 +89,11 @@ module _ (i : Inside) (v : ClientValue) (piece : List ℕ) (is : IsClient i) (vi
         rw (takes_framed does, framed, handled)
         (ap (λ (k : List ℕ). record { frame = k; link = (taking_framed i.framer i.link piece).client.link })
         (kept_framed i.framer i.link piece))
+
+    -- The frame that is lent is the one that the bytes complete.
+    pub took_frame : (lent : List ℕ) (n : ℕ) → client_takes v ≡ true → n ≡ (framing_of i.framer piece).taken
+        → lent ≡ frame_back framer.spent (take n piece) → IfSome (completed v piece) (λ frame. lent ≡ frame)
+    unfolding completed
+    took_frame lent n does count lent_is =
+        rw (does, ← view, ← is.greatest, lent_is, framed, count)
+        (found_is_back i.framer piece (framing_of i.framer piece).finding is.framer refl)

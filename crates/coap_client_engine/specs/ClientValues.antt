@@ -8,7 +8,7 @@ use Rattle.coap_wire.specs.Recognition.{first_critical}
 use Rattle.coap_wire.specs.Stream.{OfFrame}
 use Rattle.coap_wire.specs.declared.fault.FormatFault.{FormatFault}
 use Rattle.coap_wire.specs.declared.sizes.TheConstants.{LARGEST_MESSAGE}
-use Rattle.coap_frame.specs.Framing.{Framing, FrameEventValue, Nothing, AFrame, AFault, framing}
+use Rattle.coap_frame.specs.Framing.{Framing, FrameEventValue, Nothing, AFrame, AFault, found_frame, framing}
 use Rattle.coap_conn.specs.declared.reason.Reason.{Reason}
 use Rattle.coap_conn.specs.declared.phase.Role.TheVariants.{Client}
 use Rattle.coap_conn.specs.declared.phase.Reject.{Reject}
@@ -119,6 +119,10 @@ taking v piece =
     if client_takes v
     then taking_found v (framing (client_max v) v.frame piece) (framing (client_max v) v.frame piece).finding
     else record { count = 0; client = v; event = None }
+
+-- The frame that ends with the bytes accepted of `piece`, if one does.
+unfoldable pub completed : ClientValue → List ℕ → Option (List ℕ)
+completed v piece = if client_takes v then found_frame (framing (client_max v) v.frame piece).finding else None
 
 -- ---- the other calls
 

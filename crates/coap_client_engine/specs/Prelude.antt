@@ -19,7 +19,7 @@ pub use Rattle.coap_wire.specs.Frames.{constant_size, sizes_first}
 pub use Rattle.coap_wire.specs.declared.fault.FormatFault.{FormatFault}
 -- ---- coap_frame
 pub use Rattle.coap_frame.specs.Framing.{IsFramer, framing_of, framer_after, frame_back, AFault, AFrame}
-pub use Rattle.coap_frame.specs.Framing.{FrameEventValue}
+pub use Rattle.coap_frame.specs.Framing.{FrameEventValue, found_frame}
 pub use Rattle.coap_frame.specs.Framing.{FramerValue, Framing, Nothing, framing_at, split_frame}
 pub use Rattle.coap_frame.specs.Raising.{raise_refusal, with_size}
 unfoldable pub use Rattle.coap_frame.specs.Framing.{framing}
@@ -89,7 +89,7 @@ pub use Rattle.coap_client_engine.specs.ClientValues.{request_size, cancellation
 pub use Rattle.coap_client_engine.specs.ClientValues.{ClientEventValue, ClientTakeOutcome, is_cut, taking_found}
 pub use Rattle.coap_client_engine.specs.ClientValues.{taking_read}
 pub use Rattle.coap_client_engine.specs.ClientValues.{taking_rejected}
-unfoldable pub use Rattle.coap_client_engine.specs.ClientValues.{taking}
+unfoldable pub use Rattle.coap_client_engine.specs.ClientValues.{taking, completed}
 pub use Rattle.coap_client_engine.specs.ClientWorld.{ClientCall, ClientShows, Took, Sent, Cancelled, Pinged, Wrote}
 pub use Rattle.coap_client_engine.specs.ClientWorld.{Ended, ClientStep, AreAccepted, stream_in, Cancels, Ends, Faults}
 pub use Rattle.coap_client_engine.specs.ClientWorld.{Forgot, Released, Announced, Forgets, Releases, Announces, size_by}

@@ -1,13 +1,14 @@
 //! Engine of one client connection: `Client`, the result `Taken` of its `take`, and the `Event` in that result.
 
-ghost use Rattle.std.specs.Prelude.{◌≡◌, ◌≤◌, Ok, length, take, option_map, ◌++◌, ◌∷◌, ⊤, ℕ, List, [], IfOk};
+ghost use Rattle.std.specs.Prelude.{◌≡◌, ◌≤◌, Ok, length, take, option_map, ◌++◌, ◌∷◌, ⊤, ℕ, List, [], IfOk, IfSome};
 ghost use Rattle.coap_client_engine.specs.Prelude.{message_of, first_critical, IsFramer, framing_of, framer_after};
 ghost use Rattle.coap_client_engine.specs.Prelude.{frame_back, IsLive, react, reject_reason, state_in, link_after};
 ghost use Rattle.coap_client_engine.specs.Prelude.{response_event, verdict_event, event_value, answer_read, pong_read};
 ghost use Rattle.coap_client_engine.specs.Prelude.{taken_frame};
 ghost use Rattle.coap_client_engine.specs.Prelude.{received_event, taken_event, taking_framed, sem, follows_so, none};
-ghost use Rattle.coap_client_engine.specs.Prelude.{ClientValue, taking, client_takes, new_client, client_written};
-ghost use Rattle.coap_client_engine.specs.Prelude.{client_ended, ClientCall, ClientShows, Took, Wrote, Ended, takes};
+ghost use Rattle.coap_client_engine.specs.Prelude.{ClientValue, taking, completed, client_takes, new_client};
+ghost use Rattle.coap_client_engine.specs.Prelude.{client_written, client_ended, ClientCall, ClientShows, Took, Wrote};
+ghost use Rattle.coap_client_engine.specs.Prelude.{Ended, takes};
 ghost use Rattle.coap_client_engine.specs.Prelude.{event_of};
 ghost use Rattle.coap_conn.specs.LinkValue.{IsReady};
 ghost use Rattle.coap_conn.specs.Calls as call;
@@ -152,6 +153,7 @@ impl Client {
         ensures count { result.bytes ≡ (taking self.old piece.now).count }
         ensures within { result.bytes ≤ length piece.now }
         ensures event { taken_event result ≡ (taking self.old piece.now).event }
+        ensures frame { IfSome (completed self.old piece.now) (λ frame. taken_frame result ≡ frame) }
         // For all calls that lead to the old client, `takes` and `event_of` give the result. These calls and the
         // accepted bytes lead to the new client.
         ensures takes { (tokens : ℕ) (calls : List ClientCall) → ClientShows self.old tokens calls →

@@ -39,7 +39,7 @@ pub enum Method {
 /// Properties of a request besides its method and its target. By default, a request has none of them.
 #[derive(Clone, Copy, Default)]
 pub struct Extras<'a> {
-    /// Registration as an observer of the target (RFC 7641 section 3.1).
+    /// Registration as an observer of the target (RFC 7641 section 3.1). A registration is a GET, which no call checks.
     pub observe: bool,
     /// Omission of Uri-Host, whatever the host is.
     pub plain: bool,

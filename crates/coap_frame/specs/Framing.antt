@@ -1,5 +1,6 @@
 -- Defined by this project: the effect of one chunk of a stream on a framer. Frames are those of RFC 8323 section 3.2.
-use Rattle.std.specs.Prelude.{◌≡◌, ◌≢◌, ℕ, ◌+◌, ◌-◌, ◌≤◌, List, [], ◌∷◌, ◌++◌, length, take, min, ◌⊎◌}
+use Rattle.std.specs.Prelude.{◌≡◌, ◌≢◌, ℕ, ◌+◌, ◌-◌, ◌≤◌, List, [], ◌∷◌, ◌++◌, length, take, min, ◌⊎◌, Option, Some}
+use Rattle.std.specs.Prelude.{None}
 use Rattle.coap_wire.specs.StreamPrefix.{StreamPrefix, Unfinished, Whole, Faulty, prefix_kind, fault_bytes}
 use Rattle.coap_wire.specs.declared.sizes.TheConstants.{BASE_MESSAGE_SIZE, LARGEST_MESSAGE}
 use Rattle.coap_wire.specs.declared.fault.FrameFault.{FrameFault}
@@ -26,6 +27,12 @@ pub data FrameEventValue : Type 0 where
   Nothing : FrameEventValue
   AFrame : List ℕ → FrameEventValue
   AFault : FrameFault → FrameEventValue
+
+-- The frame that was found, if one was.
+abbrev pub found_frame : FrameEventValue → Option (List ℕ)
+found_frame Nothing = None
+found_frame (AFrame frame) = Some frame
+found_frame (AFault fault) = None
 
 -- The effect of a chunk: the number of bytes taken, the finding, and the kept bytes and the split frame afterwards.
 pub record Framing : Type 0 where

@@ -164,7 +164,7 @@ pub use Rattle.coap_server_session.specs.values.Sessions.{session_takes, IsSettl
 pub use Rattle.coap_server_session.specs.values.Sessions.{TakeOutcome}
 pub use Rattle.coap_server_session.specs.values.HandedRequests.{is_handed, is_handed_over, handed_read, handed_found}
 unfoldable pub use Rattle.coap_server_session.specs.values.HandedRequests.{handed, completed}
-pub use Rattle.coap_server_session.specs.values.HandedRequests.{found_frame}
+pub use Rattle.coap_frame.specs.Framing.{found_frame}
 pub use Rattle.coap_server_session.specs.values.Sessions.{session_raises}
 pub use Rattle.coap_server_session.specs.values.Sessions.{session_rejected}
 pub use Rattle.coap_server_session.specs.values.Sessions.{taking_found, taking_read, MarkedSession, IsMarked}

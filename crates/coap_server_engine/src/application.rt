@@ -64,7 +64,7 @@ pub trait Application {
 
     /// Writes the next later response to `response`, which is empty, as one encoded message, and returns the connection
     /// of its request. Returns `None` if there is no response now. The application may enlarge the buffer, and never
-    /// shrinks it.
+    /// shrinks it. It forgets a request at its deadline: a late response would answer a newer request with its token.
     fn next_response(&mut self, response: &mut Vec<u8>) -> Option<ConnId>
         requires { response.old.items ≡ [] }
         ensures offered { AnswersMore (follows self.old) (follows self.new) (offers result response.new.items) }

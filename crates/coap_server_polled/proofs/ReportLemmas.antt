@@ -8,7 +8,7 @@ use Rattle.std.proofs.lemmas.List.{length_push, map-append}
 use Rattle.std.proofs.lemmas.Map.Entries.{length-keys_of, length-values_of}
 use Rattle.coap_server_engine.specs.Prelude.{AddsAffected, AreSettled, IsOutside, KeepsOthers, KeepsWork}
 use Rattle.coap_server_engine.specs.Prelude.{LiesAt, ServerValue, SessionValue, bit_of, keys_of}
-use Rattle.coap_server_engine.specs.Prelude.{new_server, ConfigValues, on_session, position_or_len, server_dropped}
+use Rattle.coap_server_engine.specs.Prelude.{on_session, position_or_len, server_dropped}
 use Rattle.coap_server_engine.specs.Prelude.{server_opened, server_settled, server_taken, server_ticked, session_of}
 use Rattle.coap_server_engine.specs.Prelude.{server_written, session_becomes, session_written}
 use Rattle.coap_server_engine.specs.Prelude.{values_of, waiting_at, new_session}
@@ -39,12 +39,10 @@ pub keeps_none : (h : Option PolledServer) → KeepsReported h None
 unfolding KeepsReported
 keeps_none h id reported = absurd reported
 
--- A new server has no connection.
-pub keeps_new : (h : Option PolledServer) (x : PolledServer) (c : ConfigValues) → x.engine ≡ new_server c
-    → KeepsReported h (Some x)
+-- The server has no connection.
+pub keeps_new : (h : Option PolledServer) (x : PolledServer) → x.engine.sessions ≡ [] → KeepsReported h (Some x)
 unfolding KeepsReported
-keeps_new h x c is id reported =
-    absurd (omega (arith, reported.lies.within, ap (λ (v : ServerValue). length v.sessions) is))
+keeps_new h x none id reported = absurd (omega (arith, reported.lies.within, ap length none))
 
 -- ---- a call on one connection
 

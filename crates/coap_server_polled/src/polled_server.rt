@@ -1,7 +1,7 @@
 //! `PolledServer`, a server with the set of the connections that are due.
 
-ghost use Rattle.std.specs.Prelude.{◌≡◌, ◌≢◌, ◌<◌, ◌+◌, ◌++◌, ◌∷◌, ℕ, List, [], Some, IfNone, IfOk, IfSome, OnErr};
-ghost use Rattle.std.specs.Prelude.{OnOk, is_ok, nat_le};
+ghost use Rattle.std.specs.Prelude.{◌≡◌, ◌≢◌, ◌<◌, ◌+◌, ◌++◌, ◌∷◌, ℕ, List, [], Option, Some, IfNone, IfOk, IfSome};
+ghost use Rattle.std.specs.Prelude.{OnErr, OnOk, is_ok, nat_le};
 ghost use Rattle.coap_server_engine.specs.Prelude.{AcceptedCall, Announced, Dropped, Ended, IsAnnounced, IsOutside};
 ghost use Rattle.coap_server_engine.specs.Prelude.{IsReplyOn, OpenedOrMemory, Opened, RefusedBy, RefusedOrMemory};
 ghost use Rattle.coap_server_engine.specs.Prelude.{Released, Removed, Shows, Stored, Ticked, Wrote, bit_of, is_there};
@@ -38,9 +38,16 @@ pub struct PolledServer {
 }
 
 impl PolledServer {
-    /// Returns a server of whose connections none is due. It should have no connections.
+    /// Returns a server of whose connections none is due.
+    ///
+    /// # Preconditions
+    ///
+    /// `engine` has no connections.
+    #[tactic(auto, using(crate::proofs::ReportLemmas::keeps_new))]
     pub fn new(engine: Server) -> PolledServer
-        ensures { result.engine ≡ engine }
+        requires { engine.sessions ≡ [] }
+        ensures engine { result.engine ≡ engine }
+        ensures output { (h : Option PolledServer) → KeepsReported h (Some result) }
     {
         PolledServer {
             engine,

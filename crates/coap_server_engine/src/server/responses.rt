@@ -40,6 +40,7 @@ impl Server {
     /// - `NoSuch`: no connection has this id.
     /// - `NotAResponse`: the bytes are no message.
     /// - `NoSuchRequest`: no request with this token waits for a response of the application. Its deadline may be over.
+    ///   After the deadline the client may use the token again, so a late response would answer another request.
     /// - `NotAResponse`: the code has no class 2, 4 or 5, or the message has an Observe option.
     /// - `NoRoom`: the queue has no room for the response. The caller may respond again after bytes were written.
     ///

@@ -4,7 +4,7 @@ use Rattle.std.specs.Prelude.{ℕ, Bool, true, false, ◌&&◌, List, Option, So
 use Rattle.coap_wire.specs.Message.{Message}
 use Rattle.coap_wire.specs.Reading.{message_of}
 use Rattle.coap_wire.specs.declared.fault.FormatFault.{FormatFault}
-use Rattle.coap_frame.specs.Framing.{FrameEventValue, Nothing, AFrame, AFault, framing}
+use Rattle.coap_frame.specs.Framing.{FrameEventValue, Nothing, AFrame, AFault, found_frame, framing}
 use Rattle.coap_conn.specs.LinkValue.{LinkValue}
 use Rattle.coap_conn.specs.Calls.{link_after}
 use Rattle.coap_conn.specs.Calls as call
@@ -45,12 +45,6 @@ handed_found shared v (AFrame frame) = handed_read shared v frame (message_of fr
 unfoldable pub handed : ServerState → SessionValue → List ℕ → Option (List ℕ)
 handed shared v piece =
     if session_takes v then handed_found shared v (framing (session_max v) v.frame piece).finding else None
-
--- The frame that the framer found, if it found one.
-abbrev pub found_frame : FrameEventValue → Option (List ℕ)
-found_frame Nothing = None
-found_frame (AFault fault) = None
-found_frame (AFrame frame) = Some frame
 
 -- The first frame that an input slice completes, if the connection accepts bytes.
 unfoldable pub completed : SessionValue → List ℕ → Option (List ℕ)

@@ -1,7 +1,8 @@
 use Rattle.std.proofs.Common.{None, take, refl, sym, ap, ◌∙◌, arith}
 use Rattle.coap_client_engine.specs.Prelude.{message_of, frame_back, ClientTakeOutcome, client_takes, received_event}
 use Rattle.coap_client_engine.proofs.ClientShown.{took_takes, took_reported, took_shown}
-use Rattle.coap_client_engine.proofs.TakingLemmas.{framed_count, takes_none, takes_framed, took_is, took_client}
+use Rattle.coap_client_engine.proofs.TakingLemmas.{framed_count, completes_none, takes_none, takes_framed, took_is}
+use Rattle.coap_client_engine.proofs.TakingLemmas.{took_client, took_frame}
 use Rattle.coap_client_engine.proofs.client.Client.take.Goals as goal
 
 pub returns-then-not-takes : goal.returns-then-not-takes
@@ -17,6 +18,7 @@ returns-then-not-takes c =
         count = count;
         within = omega arith;
         event = event;
+        frame = rw (completes_none c.self.inside v p c.self.invariant c.self.view_is (grind arith)) tt;
         takes = took_takes v p 0 count;
         reported = λ tokens calls shows. took_reported v p 0 count tokens calls shows None event;
         shows = took_shown v p 0 count;
@@ -51,6 +53,11 @@ returns c =
         count = count;
         within = taken.within;
         event = event;
+        frame =
+            took_frame c.self.inside v p c.self.invariant c.self.view_is c.take_in-bytes.new.framer
+            c.take_in-bytes.new.link taken.framer taken.link _ c.take_in-bytes.result.0 takes taken.count
+            (c.frame_of.ensures ∙ ap (λ spent. frame_back spent (take c.take_in-bytes.result.0 p))
+            c.split_frame.ensures);
         takes = took_takes v p c.take_in-bytes.result.0 count;
         reported = λ tokens calls shows. took_reported v p c.take_in-bytes.result.0 count tokens calls shows _ event;
         shows = took_shown v p c.take_in-bytes.result.0 count;
