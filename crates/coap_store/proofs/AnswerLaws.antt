@@ -38,7 +38,7 @@ pub record OfKnownContents (P : Answer → Type 0) (place : ResourceKind) (r : R
     (m : Message) : Type 0 where
   pub valid : is_among (etag_at place r) (values_of numbers.etag m) ≡ true → P (watched place m (valid place r))
   pub late : is_async place ≡ true → is_good_query (value_of numbers.uri_query m) ≡ true → P (late place r m)
-  pub content : P (watched place m (content place r))
+  pub content : is_among (etag_at place r) (values_of numbers.etag m) ≡ false → P (watched place m (content place r))
 
 pub known_get_cases : (P : Answer → Type 0) (place : ResourceKind) (r : Representation) (m : Message) → OfErrors P
     → OfKnownContents P place r m → P (get_answer place r m)
@@ -47,10 +47,10 @@ known_get_cases P place r m errors contents =
     let good = is_good_query (value_of numbers.uri_query m) in
     either (not (is_accepted (number_of numbers.accept m) r.format))
     (λ e. rw e (errors code.not_acceptable refl)) (λ e. rw e (
-    either (is_among (etag_at place r) (values_of numbers.etag m)) (λ e. rw e (contents.valid e)) (λ e. rw e (
+    either (is_among (etag_at place r) (values_of numbers.etag m)) (λ e. rw e (contents.valid e)) (λ new. rw new (
     either (is_async place && not good) (λ e. rw e (errors code.bad_request refl)) (λ query. rw query (
     either (is_async place) (λ e. rw e (contents.late e (not-false good (rw e at query))))
-    (λ e. rw e contents.content)))))))
+    (λ e. rw e (contents.content new))))))))
 
 -- The property holds for each answer to a GET of a representation.
 pub record OfContents (P : Answer → Type 0) (place : ResourceKind) (r : Representation) (m : Message) : Type 0 where
@@ -62,7 +62,7 @@ pub get_cases : (P : Answer → Type 0) (place : ResourceKind) (r : Representati
     → OfContents P place r m → P (get_answer place r m)
 get_cases P place r m errors contents =
     known_get_cases P place r m errors
-    (record { valid = contents.valid; late = λ waits good. contents.late; content = contents.content })
+    (record { valid = contents.valid; late = λ waits good. contents.late; content = λ new. contents.content })
 
 -- No check rejects the representation.
 pub record CanStore (s : StoreValue) (t : RequestTarget) (m : Message) : Type 0 where
@@ -98,22 +98,46 @@ read_cases : (P : Answer → Type 0) (place : ResourceKind) (state : Option Repr
 read_cases P place None m errors read = errors code.not_found refl
 read_cases P place (Some r) m errors read = read r refl
 
+-- The request passes the checks before its method.
+pub record PassesChecks (s : StoreValue) (t : RequestTarget) (m : Message) : Type 0 where
+  pub options : is_some (first_critical m.options) ≡ false
+  pub proxy : (has_option numbers.proxy_uri m || has_option numbers.proxy_scheme m) ≡ false
+  pub method : not (is_method m) ≡ false
+  pub present : (is_none t.state && needs_resource s m) ≡ false
+  pub allowed : (not (is_dynamic t.place) && not (is_get m)) ≡ false
+  pub conditions : not (preconditions_hold t.state m) ≡ false
+
+-- The cases: an error of a check, and the answer of the method.
+pub checked_cases : (P : Answer → Type 0) (s : StoreValue) (t : RequestTarget) (m : Message) → OfErrors P
+    → (PassesChecks s t m → P (method_answer s t m)) → P (answer_at s t m)
+unfolding answer_at resource_answer
+checked_cases P s t m errors passed =
+    either (is_some (first_critical m.options)) (λ e. rw e (errors code.bad_option refl)) (λ options. rw options (
+    either (has_option numbers.proxy_uri m || has_option numbers.proxy_scheme m)
+    (λ e. rw e (errors code.proxying_not_supported refl)) (λ proxy. rw proxy (
+    either (not (is_method m)) (λ e. rw e (errors code.method_not_allowed refl)) (λ method. rw method (
+    either (is_none t.state && needs_resource s m) (λ e. rw e (errors code.not_found refl)) (λ present. rw present (
+    either (not (is_dynamic t.place) && not (is_get m))
+    (λ e. rw e (errors code.method_not_allowed refl)) (λ allowed. rw allowed (
+    either (not (preconditions_hold t.state m)) (λ e. rw e (errors code.precondition_failed refl))
+    (λ conditions. rw conditions (passed (record {
+      options = options;
+      proxy = proxy;
+      method = method;
+      present = present;
+      allowed = allowed;
+      conditions = conditions;
+    })))))))))))))
+
 -- Methods other than GET are rejected for built-in resources, so another method has a created resource.
 known_answer_cases : (P : Answer → Type 0) (s : StoreValue) (t : RequestTarget) (m : Message) → OfErrors P
     → OfKnownMethods P s t m → P (answer_at s t m)
-unfolding answer_at resource_answer method_answer
+unfolding method_answer
 known_answer_cases P s t m errors methods =
-    either (is_some (first_critical m.options)) (λ e. rw e (errors code.bad_option refl)) (λ e. rw e (
-    either (has_option numbers.proxy_uri m || has_option numbers.proxy_scheme m)
-    (λ e. rw e (errors code.proxying_not_supported refl)) (λ e. rw e (
-    either (not (is_method m)) (λ e. rw e (errors code.method_not_allowed refl)) (λ e. rw e (
-    either (is_none t.state && needs_resource s m) (λ e. rw e (errors code.not_found refl)) (λ e. rw e (
-    either (not (is_dynamic t.place) && not (is_get m))
-    (λ e. rw e (errors code.method_not_allowed refl)) (λ allowed. rw allowed (
-    either (not (preconditions_hold t.state m)) (λ e. rw e (errors code.precondition_failed refl)) (λ e. rw e (
+    checked_cases P s t m errors (λ passes.
     cond_both (is_get m) _ _ P (λ get. read_cases P t.place t.state m errors (methods.read get)) (λ other.
-    let dynamic = true_from_ne_false (is_dynamic t.place) (λ built. both_ways _ allowed (rw (built, other))) in
-    cond_both (is_delete m) _ _ P (λ _. methods.deleted dynamic other) (λ _. methods.stored dynamic other))))))))))))))
+    let dynamic = true_from_ne_false (is_dynamic t.place) (λ built. both_ways _ passes.allowed (rw (built, other))) in
+    cond_both (is_delete m) _ _ P (λ _. methods.deleted dynamic other) (λ _. methods.stored dynamic other)))
 
 pub answer_cases : (P : Answer → Type 0) (s : StoreValue) (t : RequestTarget) (m : Message) → OfErrors P
     → OfMethods P s t m → P (answer_at s t m)
@@ -161,7 +185,7 @@ pub record IsOfStored (s : StoreValue) (now : ℕ) (m : Message) (state : Option
   pub found : found_in s.resources (path_of m) ≡ state
   pub there : state_of s now (path_of m) ≡ state
 
--- The property holds for each answer, and does not depend on the removal of an observer.
+-- The property holds for each answer, also if the request removes an observer.
 pub record OfAnswers (P : Answer → Type 0) (s : StoreValue) (now : ℕ) (m : Message) : Type 0 where
   pub error : OfErrors P
   pub valid : (r : Representation) → is_get m ≡ true → state_of s now (path_of m) ≡ Some r
@@ -171,6 +195,7 @@ pub record OfAnswers (P : Answer → Type 0) (s : StoreValue) (now : ℕ) (m : M
       → is_async (kind_of_path (path_of m)) ≡ true → is_good_query (value_of numbers.uri_query m) ≡ true
       → P (late (kind_of_path (path_of m)) r m)
   pub content : (r : Representation) → is_get m ≡ true → state_of s now (path_of m) ≡ Some r
+      → is_among (etag_at (kind_of_path (path_of m)) r) (values_of numbers.etag m) ≡ false
       → P (watched (kind_of_path (path_of m)) m (content (kind_of_path (path_of m)) r))
   pub absent : is_get m ≡ false → state_of s now (path_of m) ≡ None → P (says (only code.deleted))
   pub deleted : (r : Representation) → IsOfStored s now m (Some r)
@@ -179,7 +204,7 @@ pub record OfAnswers (P : Answer → Type 0) (s : StoreValue) (now : ℕ) (m : M
   pub created : IsOfStored s now m None → CanStore s (target_of s now (path_of m)) m → P (stored (path_of m) None m)
   pub replaced : (r : Representation) → IsOfStored s now m (Some r) → CanStore s (target_of s now (path_of m)) m
       → P (stored (path_of m) (Some r) m)
-  pub dropped : (a : Answer) → P a → P (record a { watch = Drop })
+  pub dropped : removes_watch m ≡ true → (a : Answer) → P a → P (record a { watch = Drop })
 
 -- The cases of the key and the representation of a created resource.
 by_key : (s : StoreValue) (now : ℕ) (m : Message) (P : Option Path → Option Representation → Type 0)
@@ -200,9 +225,9 @@ by_key s now m P dynamic method none some =
     let there : state_of s now path ≡ None = state ∙ ap (stored_at s) key in
     rw (there, key) (none there))
 
-final : (P : Answer → Type 0) (b : Bool) (a : Answer) → ((a : Answer) → P a → P (record a { watch = Drop })) → P a
-    → P (with_observe_rule b a)
-final P true a dropped h = dropped a h
+pub final : (P : Answer → Type 0) (b : Bool) (a : Answer)
+    → (b ≡ true → (a : Answer) → P a → P (record a { watch = Drop })) → P a → P (with_observe_rule b a)
+final P true a dropped h = dropped refl a h
 final P false a dropped h = h
 
 pub answer_holds : (P : Answer → Type 0) (s : StoreValue) (now : ℕ) (m : Message) → OfAnswers P s now m

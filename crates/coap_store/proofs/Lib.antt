@@ -18,6 +18,8 @@ pub mod RememberingLaws
 pub mod WatchLaws
 pub mod HoldLaws
 pub mod ApplicationLaws
+pub mod ConditionLaws
+pub mod WithoutConditionsLaws
 mod EntryLemmas
 mod MoveLemmas
 pub mod EscapeLemmas

@@ -1,6 +1,6 @@
 -- The relation of requests and responses to the state of a path.
 use Rattle.std.proofs.Common.{◌≡◌, ◌≢◌, inl, inr, ℕ, ◌+◌, ◌≤◌, Bool, true, false, List, [], ◌∷◌, ◌++◌, length, map}
-use Rattle.std.proofs.Common.{rules, filter, Option, Some, None, refl, ap, ◌∙◌, arith}
+use Rattle.std.proofs.Common.{rules, filter, Option, Some, None, refl, sym, ap, ◌∙◌, arith}
 use Rattle.coap_store.specs.Prelude.{◌==◌, AllByRecursion, kind_of, is_recognised, checked_given}
 use Rattle.coap_store.specs.Prelude.{first_critical_in, recognised_in, Message, CoapOption, Path, is_path}
 use Rattle.coap_store.specs.Prelude.{written_length, Representation, StoreValue, found_in, kind_of_path, key_for}
@@ -11,8 +11,13 @@ use Rattle.coap_store.specs.Prelude.{get_answer, method_answer, resource_answer,
 use Rattle.coap_store.specs.Prelude.{with_observe_rule}
 use Rattle.coap_store.specs.Prelude.{answer_of, changed, plain_get, IsStoredCode, ReportsState, ReportsEtag}
 use Rattle.coap_store.specs.Prelude.{IsElsewhere, if◌then◌else◌}
-use Rattle.coap_store.specs.Prelude.{content_of, put_by, each_at, ResourceKind, Listing, Dynamic}
-use Rattle.std.proofs.lemmas.Bool.{leb-true, le-leb}
+use Rattle.coap_store.specs.Prelude.{content_of, put_by, each_at, ResourceKind, Async, Listing, Dynamic, is_async}
+use Rattle.coap_store.specs.Prelude.{same_bytes, list_any, IsStore}
+use lib.Pointwise.{bytes_decides}
+use Rattle.std.specs.Prelude.{Contains}
+use Rattle.std.proofs.lemmas.Bool.{leb-true, le-leb, both_ways, or_parts}
+use Rattle.std.proofs.lemmas.Option.{same_Some, none-some}
+use Rattle.std.proofs.lemmas.Map.Views.{Contains-from_any}
 use Rattle.coap_wire.specs.Codes as code
 use Rattle.coap_wire.specs.OptionNumbers as numbers
 use Rattle.coap_path.proofs.PathLemmas.{path_fits}
@@ -20,6 +25,9 @@ use Rattle.coap_store.proofs.AnswerLaws.{is_error, answer_holds}
 use Rattle.coap_store.proofs.AnswerLaws.{key_is}
 use Rattle.coap_store.proofs.StateLemmas.{state_stored}
 use Rattle.coap_store.proofs.ChangeLaws.{other_is_kept_on_put, other_is_kept_on_delete, put_is_stored}
+use Rattle.coap_store.proofs.ChangeLaws.{deleted_is_gone}
+use Rattle.coap_store.proofs.StoreLemmas.{found_kept}
+use Rattle.coap_store.proofs.ConditionLaws.{delete_succeeds}
 use Rattle.coap_store.proofs.StateLemmas.{state_put, state_removed}
 
 -- ---- a GET changes nothing
@@ -29,12 +37,12 @@ get_keeps s now m get = answer_holds (λ a. a.change ≡ Nothing) s now m (searc
 
 -- ---- a response has the state
 
-response_finally : (b : Bool) (a : Answer) → (with_observe_rule b a).response ≡ a.response
+pub response_finally : (b : Bool) (a : Answer) → (with_observe_rule b a).response ≡ a.response
 response_finally true a = refl
 response_finally false a = refl
 
 -- No error response has a code of class 2.
-no_error : (c d : ℕ) → is_error c ≡ true → d ≤ 127 → c ≢ d
+pub no_error : (c d : ℕ) → is_error c ≡ true → d ≤ 127 → c ≢ d
 no_error c d e small = λ same. (let large = leb-true 128 c e in omega arith)
 
 -- A representation whose ETag is in the request is that of a created resource.
@@ -57,6 +65,72 @@ valid_reports s now m =
     let state = state_of s now (path_of m) in
     answer_holds (λ a. a.response.code ≡ code.valid → ReportsEtag state a.response) s now m
     (search (rules, arith, no_error, stored_by_etag))
+
+-- ---- the ETags of a request
+
+among_is : (place : ResourceKind) (r : Representation) (values : List (List ℕ)) (etag : List ℕ)
+    → is_among (etag_at place r) values ≡ true → etag_at place r ≡ Some etag → Contains values etag
+among_is Dynamic r values etag among is =
+    Contains-from_any {eq = λ x y. same_bytes y x} (λ x y same. sym ((bytes_decides y x).0 same)) etag values
+    (rw (same_Some _ _ is) at among)
+among_is _ r values etag among is = absurd cc
+
+-- No value is the ETag.
+abbrev HaveOther : List (List ℕ) → List ℕ → Type 0
+HaveOther values etag = AllByRecursion (λ value. value ≢ etag) values
+
+all_other : (values : List (List ℕ)) (etag : List ℕ) → list_any (λ value. same_bytes value etag) values ≡ false
+    → HaveOther values etag
+all_other [] etag none = tt
+all_other (v ∷ vs) etag none =
+    let parts = or_parts (same_bytes v etag) _ none in
+    ((λ same. both_ways _ parts.0 ((bytes_decides v etag).1 same)), all_other vs etag parts.1)
+
+none_is : (place : ResourceKind) (r : Representation) (values : List (List ℕ)) (etag : List ℕ)
+    → is_among (etag_at place r) values ≡ false → etag_at place r ≡ Some etag → HaveOther values etag
+none_is Dynamic r values etag none is = all_other values etag (rw (same_Some _ _ is) at none)
+none_is _ r values etag none is = absurd cc
+
+-- `/async` has no ETag.
+late_unnamed : (place : ResourceKind) (r : Representation) (etag : List ℕ) → is_async place ≡ true
+    → etag_at place r ≢ Some etag
+late_unnamed Async r etag waits is = absurd cc
+late_unnamed _ r etag waits is = absurd cc
+
+pub valid_names : (s : StoreValue) (now : ℕ) (m : Message) (etag : List ℕ)
+    → (answer_of s now m).response.code ≡ code.valid → (answer_of s now m).response.etag ≡ Some etag
+    → Contains (values_of numbers.etag m) etag
+valid_names s now m etag =
+    answer_holds (λ a. a.response.code ≡ code.valid → a.response.etag ≡ Some etag
+    → Contains (values_of numbers.etag m) etag) s now m (search (rules, arith, no_error, among_is))
+
+pub content_is_new : (s : StoreValue) (now : ℕ) (m : Message) (etag : List ℕ)
+    → (answer_of s now m).response.code ≡ code.content → (answer_of s now m).response.etag ≡ Some etag
+    → HaveOther (values_of numbers.etag m) etag
+content_is_new s now m etag =
+    answer_holds (λ a. a.response.code ≡ code.content → a.response.etag ≡ Some etag
+    → HaveOther (values_of numbers.etag m) etag) s now m (search (rules, arith, no_error, none_is, late_unnamed))
+
+-- ---- a deleted path is absent
+
+absent_found : (s : StoreValue) (now : ℕ) (path : Path) → IsStore s → state_of s now path ≡ None
+    → found_in s.resources path ≡ None
+absent_found s now path is absent = by (found_in s.resources path) refl
+  where
+    by : (found : Option Representation) → found_in s.resources path ≡ found → found_in s.resources path ≡ None
+    by None e = e
+    by (Some r) e =
+        let kept = found_kept s path r is e in
+        absurd (none-some r (sym absent ∙ (state_stored s now path kept.path kept.place ∙ e)))
+
+pub deleted_is_absent : (s : StoreValue) (now : ℕ) (m : Message) → IsStore s
+    → (answer_of s now m).response.code ≡ code.deleted
+    → found_in (changed s (answer_of s now m).change).resources (path_of m) ≡ None
+deleted_is_absent s now m is =
+    let gone = deleted_is_gone s (path_of m) is.paths in
+    answer_holds (λ a. a.response.code ≡ code.deleted
+    → found_in (changed s a.change).resources (path_of m) ≡ None) s now m
+    (search (rules, arith, no_error, absent_found, gone))
 
 -- ---- other paths
 
@@ -186,5 +260,9 @@ put_is_served s now later m token said =
     ap (λ (c : Change). found_in (changed s c).resources (path_of m)) stores.change
     ∙ put_is_stored s (path_of m) (number_of numbers.content_format m) m.payload in
     stored_is_served after later token (path_of m) (put_by m (s.versions + 1)) stores.is stores.place found
+
+pub ruleset responses_report_state_steps = (content_reports, valid_reports, content_is_new)
+
+pub ruleset what_is_deleted_is_gone_steps = (deleted_is_gone, deleted_is_absent, delete_succeeds)
 
 pub ruleset what_is_put_is_the_state_steps = (state_elsewhere, state_put, state_removed)

@@ -1,15 +1,19 @@
 -- Properties of requests that register an observer.
-use Rattle.std.proofs.Common.{◌≡◌, ℕ, true, Option, Some, None, refl, ap, ◌∙◌, arith, rules}
+use Rattle.std.proofs.Common.{◌≡◌, inl, inr, ℕ, ◌&&◌, true, false, Option, Some, None, refl, ap, ◌∙◌, arith, rules}
 use Rattle.coap_store.specs.Prelude.{◌⊎◌, Message, Path, is_path, Representation}
 use Rattle.coap_store.specs.Prelude.{StoreValue, time_path, is_observable, kind_of_path, key_for, state_at}
 use Rattle.coap_store.specs.Prelude.{state_of, path_of, Answer, Response, watch_of}
 use Rattle.coap_store.specs.Prelude.{watched, stored_under, answer_of}
-use Rattle.coap_store.specs.Prelude.{immediate_answer, MayObserve, ResourceKind, Time, Dynamic}
-use Rattle.std.proofs.lemmas.Bool.{cond-true}
+use Rattle.coap_store.specs.Prelude.{immediate_answer, MayObserve, ResourceKind, Time, Async, Dynamic, is_get}
+use Rattle.coap_store.specs.Prelude.{number_of, removes_watch, is_async}
+use Rattle.coap_store.specs.Answer.{is_number}
+use Rattle.std.proofs.lemmas.Bool.{cond-true, and_parts, and_right, both_ways, eqb-true}
 use Rattle.coap_wire.specs.Codes as code
+use Rattle.coap_wire.specs.OptionNumbers as numbers
 use Rattle.coap_store.specs.declared.plan.Watch.TheVariants as watch
 use Rattle.coap_path.proofs.PathLemmas.{same_path_sound}
-use Rattle.coap_store.proofs.AnswerLaws.{answer_holds, prompt_holds, key_is}
+use Rattle.coap_store.proofs.AnswerLaws.{either, is_error, answer_holds, prompt_holds, key_is}
+use Rattle.coap_store.proofs.ServingLaws.{no_error}
 use Rattle.coap_store.proofs.TargetLemmas.{is_time}
 
 -- ---- the observable resources
@@ -90,3 +94,55 @@ unfolding immediate_answer
 promptly_watched_is_there s now m =
     prompt_holds (λ a. a.watch ≡ watch.Add → MayObserve s now (path_of m) a) (answer_of s now m)
     (watched_is_there s now m) (λ seconds late e. (let at_once = watched_at_once s now m e in absurd cc))
+
+-- ---- the requests that register an observer
+
+is_zero : (given : Option ℕ) → is_number given 0 ≡ true → given ≡ Some 0
+is_zero None e = absurd cc
+is_zero (Some n) e = ap Some (eqb-true n 0 e)
+
+watched_request : (place : ResourceKind) (m : Message) → watch_of place m ≡ watch.Add
+    → number_of numbers.observe m ≡ Some 0
+watched_request place m e =
+    either (is_observable place && is_number (number_of numbers.observe m) 0)
+    (λ both. is_zero (number_of numbers.observe m) (and_parts _ _ both).1) (λ none. (let n = rw none at e in absurd cc))
+
+pub requested_watch : (s : StoreValue) (now : ℕ) (m : Message) → (answer_of s now m).watch ≡ watch.Add
+    → (is_get m ≡ true) × (number_of numbers.observe m ≡ Some 0)
+requested_watch s now m =
+    answer_holds (λ a. a.watch ≡ watch.Add → (is_get m ≡ true) × (number_of numbers.observe m ≡ Some 0)) s now m
+    (search (rules, watched_request))
+
+-- A request with Observe 0 removes no observer.
+no_removal : (m : Message) → number_of numbers.observe m ≡ Some 0 → removes_watch m ≡ false
+no_removal m zero = rw zero (and_right _ _ refl)
+
+watch_added : (place : ResourceKind) (m : Message) → is_observable place ≡ true
+    → number_of numbers.observe m ≡ Some 0 → watch_of place m ≡ watch.Add
+watch_added place m can zero = rw (can, zero) refl
+
+prompt_place : (place : ResourceKind) → is_async place ≡ true → is_observable place ≡ true → ⊥
+prompt_place Async waits can = absurd cc
+prompt_place _ waits can = absurd cc
+
+-- The code is 2.05 or 2.03.
+abbrev IsReport : ℕ → Type 0
+IsReport c = (c ≡ code.content) ⊎ (c ≡ code.valid)
+
+no_report : (c : ℕ) → is_error c ≡ true → IsReport c → ⊥
+no_report c e (inl is) = no_error c code.content e (omega arith) is
+no_report c e (inr is) = no_error c code.valid e (omega arith) is
+
+pub added_watch : (s : StoreValue) (now : ℕ) (m : Message) → is_observable (kind_of_path (path_of m)) ≡ true
+    → number_of numbers.observe m ≡ Some 0 → IsReport (answer_of s now m).response.code
+    → (answer_of s now m).watch ≡ watch.Add
+added_watch s now m can zero =
+    let stays = no_removal m zero in
+    let added = watch_added (kind_of_path (path_of m)) m can zero in
+    let other = λ (waits : is_async (kind_of_path (path_of m)) ≡ true). prompt_place _ waits can in
+    let left = both_ways (removes_watch m) stays in
+    answer_holds (λ a. IsReport a.response.code → a.watch ≡ watch.Add) s now m
+    (search (rules, arith, no_report, added, other, left))
+
+pub ruleset what_is_watched_is_there_steps =
+    (watched_is_there, promptly_watched_is_there, requested_watch, added_watch)

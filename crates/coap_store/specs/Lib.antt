@@ -24,6 +24,7 @@ pub mod StoreViews
 pub mod OptionScan
 pub mod ParsedRequestViews
 pub mod Observing
+pub mod Conditions
 pub mod Links
 pub mod Texts
 pub mod TextViews

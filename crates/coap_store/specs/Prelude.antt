@@ -93,6 +93,8 @@ unfoldable pub use Rattle.coap_store.specs.Store.{found_in, put_at, removed_at, 
 pub use Rattle.coap_store.specs.StoreViews.{store_value}
 pub use Rattle.coap_store.specs.RequestTargetViews.{found_value, target_value}
 pub use Rattle.coap_store.specs.Observing.{MayObserve}
+pub use Rattle.coap_store.specs.Conditions.{FailsIfMatch, FailsIfNoneMatch, FailsCondition, IsRejection}
+pub use Rattle.coap_store.specs.Conditions.{is_condition, without_conditions}
 -- ---- coap_store, declared
 pub use Rattle.coap_store.specs.declared.fault.StoreFault.TheVariants.{NoSuch}
 pub use Rattle.coap_store.specs.declared.plan.Watch.TheVariants.{Add, Drop}

@@ -1,7 +1,8 @@
 //! Theorems on all stores and all plans. Each is the contract of a function with an empty body.
 
 ghost use Rattle.std.specs.Prelude.{◌≡◌, ◌≢◌, ◌↔◌, ℕ, ◌+◌, ◌<◌, ◌≤◌, ◌^◌, List, [], Option, Some, None, IsTrue};
-ghost use Rattle.std.specs.Prelude.{IsFalse, IfSome};
+ghost use Rattle.std.specs.Prelude.{IsFalse, IfSome, Contains, ◌⊎◌, is_some};
+ghost use Rattle.std.specs.List.{AllByRecursion};
 ghost use Rattle.coap_store.specs.Prelude.{LARGEST_MESSAGE, Message, Path, is_path, Representation, StoreValue};
 ghost use Rattle.coap_store.specs.Prelude.{found_in, put_in, removed_in, kind_of_path, state_of, is_get, path_of};
 ghost use Rattle.coap_store.specs.Prelude.{etag_of, Change, Nothing, Put, Delete, only, delayed_response, is_delayed};
@@ -9,7 +10,10 @@ ghost use Rattle.coap_store.specs.Prelude.{answer_of, immediate_answer, changed,
 ghost use Rattle.coap_store.specs.Prelude.{ApplicationsValue, HasSmallFormat, changed_by, TakesChanges, AreDistinct};
 ghost use Rattle.coap_store.specs.Prelude.{IsStore, put_refusal, WasStored, notification_of, MayObserve, plain_get};
 ghost use Rattle.coap_store.specs.Prelude.{IsStoredCode, ReportsState, ReportsEtag, IsElsewhere, content_of, put_by};
+ghost use Rattle.coap_store.specs.Prelude.{values_of, number_of, first_critical, is_observable, FailsCondition};
+ghost use Rattle.coap_store.specs.Prelude.{IsRejection, without_conditions, is_delete, passes_checks};
 ghost use Rattle.coap_wire.specs.Codes as code;
+ghost use Rattle.coap_wire.specs.OptionNumbers as numbers;
 ghost use Rattle.coap_path.specs.declared.resource_kind.ResourceKind.TheVariants.{Listing, Dynamic};
 ghost use Rattle.coap_store.specs.declared.plan.Watch.TheVariants.{Add};
 
@@ -46,11 +50,19 @@ pub fn what_is_put_is_found()
         ≡ Some (record { version = s.versions + 1; format = format; bytes = bytes }) }
 {}
 
-/// States that nothing is found at a path after its deletion, if no path occurs twice.
-#[tactic(auto, using(crate::proofs::ChangeLaws::deleted_is_gone))]
+/// States that nothing is found at a path after its deletion, if no path occurs twice. A path is absent after the
+/// response 2.02 (RFC 7252 section 5.8.4). A DELETE of a path that is not built in has this response if it passes the
+/// checks of every server and no condition fails.
+#[tactic(auto, using(crate::proofs::ServingLaws::what_is_deleted_is_gone_steps))]
 pub fn what_is_deleted_is_gone()
-    ensures { (s : StoreValue) (path : Path) → AreDistinct s.resources →
+    ensures change { (s : StoreValue) (path : Path) → AreDistinct s.resources →
         found_in (changed s (Delete path)).resources path ≡ None }
+    ensures request { (s : StoreValue) (now : ℕ) (m : Message) → IsStore s →
+        (answer_of s now m).response.code ≡ code.deleted →
+        found_in (changed s (answer_of s now m).change).resources (path_of m) ≡ None }
+    ensures success { (s : StoreValue) (now : ℕ) (m : Message) → IsTrue (is_delete m) → IsTrue (passes_checks m) →
+        kind_of_path (path_of m) ≡ Dynamic → (FailsCondition (state_of s now (path_of m)) m → ⊥) →
+        (answer_of s now m).response ≡ only code.deleted }
 {}
 
 /// States that a change keeps the representations at other paths.
@@ -110,13 +122,20 @@ pub fn get_changes_nothing()
 {}
 
 /// States that a 2.05 has the bytes, the format and the ETag, if any, of the path's state (RFC 7252 sections 5.9.1.5,
-/// 5.10.6). A 2.03 has the ETag (section 5.9.1.3).
-#[tactic(auto, using(crate::proofs::ServingLaws::content_reports, crate::proofs::ServingLaws::valid_reports))]
+/// 5.10.6). A 2.03 has the ETag (section 5.9.1.3). The ETag of a 2.03 is one that the request has, and the ETag of a
+/// 2.05 is none of these (section 5.10.6.2).
+#[tactic(auto, using(crate::proofs::ServingLaws::responses_report_state_steps))]
 pub fn responses_report_state()
     ensures content { (s : StoreValue) (now : ℕ) (m : Message) → (answer_of s now m).response.code ≡ code.content →
         ReportsState (kind_of_path (path_of m)) (state_of s now (path_of m)) (answer_of s now m).response }
     ensures valid { (s : StoreValue) (now : ℕ) (m : Message) → (answer_of s now m).response.code ≡ code.valid →
         ReportsEtag (state_of s now (path_of m)) (answer_of s now m).response }
+    ensures named { (s : StoreValue) (now : ℕ) (m : Message) (etag : List ℕ) →
+        (answer_of s now m).response.code ≡ code.valid → (answer_of s now m).response.etag ≡ Some etag →
+        Contains (values_of numbers.etag m) etag }
+    ensures other { (s : StoreValue) (now : ℕ) (m : Message) (etag : List ℕ) →
+        (answer_of s now m).response.code ≡ code.content → (answer_of s now m).response.etag ≡ Some etag →
+        AllByRecursion (λ value. value ≢ etag) (values_of numbers.etag m) }
 {}
 
 /// States that a GET with no option but Uri-Path returns a stored representation with 2.05 (RFC 7252 section 5.8.1).
@@ -198,14 +217,49 @@ pub fn notifications_report_state()
         (answer_of s now (plain_get token path)).response ≡ notification_of s now path format }
 {}
 
-/// States that a request that registers an observer (RFC 7641 section 4.1) names an existing, observable resource. It
-/// changes nothing, and its response is 2.05 or 2.03.
-#[tactic(auto, using(crate::proofs::WatchLaws::watched_is_there, crate::proofs::WatchLaws::promptly_watched_is_there))]
+/// States that a request that registers an observer (RFC 7641 section 4.1) is a GET with Observe 0, and names an
+/// existing, observable resource. It changes nothing, and its response is 2.05 or 2.03. Each GET with Observe 0 of an
+/// observable resource registers an observer if it has such a response.
+#[tactic(auto, using(crate::proofs::WatchLaws::what_is_watched_is_there_steps))]
 pub fn what_is_watched_is_there()
     ensures watched { (s : StoreValue) (now : ℕ) (m : Message) → (answer_of s now m).watch ≡ Add →
         MayObserve s now (path_of m) (answer_of s now m) }
     ensures promptly { (s : StoreValue) (now : ℕ) (m : Message) → (immediate_answer s now m).watch ≡ Add →
         MayObserve s now (path_of m) (immediate_answer s now m) }
+    ensures requested { (s : StoreValue) (now : ℕ) (m : Message) → (answer_of s now m).watch ≡ Add →
+        IsTrue (is_get m) × (number_of numbers.observe m ≡ Some 0) }
+    ensures added { (s : StoreValue) (now : ℕ) (m : Message) → IsTrue (is_observable (kind_of_path (path_of m))) →
+        number_of numbers.observe m ≡ Some 0 →
+        ((answer_of s now m).response.code ≡ code.content) ⊎ ((answer_of s now m).response.code ≡ code.valid) →
+        (answer_of s now m).watch ≡ Add }
+{}
+
+/// States that a request gets 4.02 if and only if it has an unrecognised critical option, and then changes nothing (RFC
+/// 7252 section 5.4.1).
+#[tactic(auto, using(crate::proofs::ConditionLaws::critical_steps))]
+pub fn unrecognised_critical_options_are_rejected()
+    ensures rejected { (s : StoreValue) (now : ℕ) (m : Message) → IsTrue (is_some (first_critical m.options)) →
+        ((answer_of s now m).response ≡ only code.bad_option) × ((answer_of s now m).change ≡ Nothing) }
+    ensures only { (s : StoreValue) (now : ℕ) (m : Message) →
+        (answer_of s now m).response.code ≡ code.bad_option → IsTrue (is_some (first_critical m.options)) }
+{}
+
+/// States that a request whose If-Match or If-None-Match fails gets an error and changes nothing (RFC 7252 section
+/// 5.10.8). The error is 4.12 only if one of them fails, and always if the request would succeed without them. If none
+/// fails, they change nothing. An unrecognised critical option decides before them.
+#[tactic(auto, using(crate::proofs::WithoutConditionsLaws::condition_steps))]
+pub fn failed_conditions_are_rejected()
+    ensures rejected { (s : StoreValue) (now : ℕ) (m : Message) → FailsCondition (state_of s now (path_of m)) m →
+        IsRejection (answer_of s now m) }
+    ensures only { (s : StoreValue) (now : ℕ) (m : Message) →
+        (answer_of s now m).response.code ≡ code.precondition_failed → FailsCondition (state_of s now (path_of m)) m }
+    ensures failed { (s : StoreValue) (now : ℕ) (m : Message) → first_critical m.options ≡ None →
+        FailsCondition (state_of s now (path_of m)) m →
+        code.class_of (answer_of s now (without_conditions m)).response.code ≡ 2 →
+        (answer_of s now m).response ≡ only code.precondition_failed }
+    ensures met { (s : StoreValue) (now : ℕ) (m : Message) → first_critical m.options ≡ None →
+        (FailsCondition (state_of s now (path_of m)) m → ⊥) →
+        answer_of s now m ≡ answer_of s now (without_conditions m) }
 {}
 
 /// States that only a response to a GET of `/async` is delayed, by at most 3,600 seconds, and is always the same. Such
