@@ -98,6 +98,8 @@ unfoldable pub use Rattle.coap_model.specs.streams.Output.{flushed, flushed_afte
 -- ---- coap_model, views
 pub use Rattle.coap_model.specs.views.ConfigViews.{start_values}
 -- ---- coap_model, world
+pub use Rattle.coap_model.specs.world.Responses.{QueuesResponse, registers_by, registers, may_register}
+pub use Rattle.coap_model.specs.world.Responses.{registered_response, registration_fits}
 pub use Rattle.coap_model.specs.world.PongOrder.{FollowsAnswers, HasResponse}
 unfoldable pub use Rattle.coap_model.specs.world.PongOrder.{HaveDistinctAnswers}
 pub use Rattle.coap_model.specs.world.Custody.{QueuesCustody, IsFirstPending, KeepsPending, KeepsPendingOver}
@@ -110,13 +112,12 @@ pub use Rattle.coap_model.specs.world.Events.{beyond, new_fault, size_by, spelle
 unfoldable pub use Rattle.coap_model.specs.world.Events.{size_on, steps_of, world_after, takes, AreAcceptedAfter}
 unfoldable pub use Rattle.coap_model.specs.world.Events.{IsAccepted, sizes_on, later_steps, steps_by, taken_on}
 pub use Rattle.coap_model.specs.world.Fates.{Fate, Unanswered, Answered, ApplicationRequest, is_for_application}
-pub use Rattle.coap_model.specs.world.Fates.{asks_with}
 pub use Rattle.coap_model.specs.world.Fates.{awaits, is_unanswered, messages_of, entry_of, is_of_application}
 pub use Rattle.coap_model.specs.world.Fates.{has_stopped, fate_of, fate_by, is_unanswered_with, refusal_of, new_request}
 pub use Rattle.coap_model.specs.world.Fates.{requests_due, if_there, MayAnswer}
 pub use Rattle.coap_model.specs.world.Fates.{HasFate}
 pub use Rattle.coap_model.specs.world.Fates.{HaveOtherPlaces, HaveOwnAnswers, HasOnlyAnswer, given_in, response_of}
-pub use Rattle.coap_model.specs.world.Fates.{AreAnswers, AreQueuedInOrder, IsTimely, first_fate}
+pub use Rattle.coap_model.specs.world.Fates.{AreAnswers, AreQueuedInOrder, IsTimely, IsUnfit, first_fate}
 pub use Rattle.coap_model.specs.world.Fates.{handed_requests, handed_in, handed_between, is_by_application}
 pub use Rattle.coap_model.specs.world.Fates.{IsGone, WasDropped}
 unfoldable pub use Rattle.coap_model.specs.world.Fates.{given_on, responses_to}
@@ -142,10 +143,10 @@ unfoldable pub use Rattle.coap_model.specs.world.Connections.{side_released, sid
 unfoldable pub use Rattle.coap_model.specs.world.Connections.{side_responded}
 unfoldable pub use Rattle.coap_model.specs.world.Connections.{settled, settled_within}
 pub use Rattle.coap_model.specs.world.LastNotification.{IsLastNotification, TokensAreDistinct, requested_late}
-pub use Rattle.coap_model.specs.world.LastNotification.{ReportsState}
+pub use Rattle.coap_model.specs.world.LastNotification.{asks_with, IsRegistered, NamesEtag, ReportsState}
 pub use Rattle.coap_model.specs.world.LastNotification.{etag_of_state}
 pub use Rattle.coap_model.specs.world.LastNotification.{responds}
-unfoldable pub use Rattle.coap_model.specs.world.LastNotification.{last_response}
+unfoldable pub use Rattle.coap_model.specs.world.LastNotification.{last_request, last_response}
 pub use Rattle.coap_model.specs.world.View.{after_view, AllConcern, change_on, change_steps}
 unfoldable pub use Rattle.coap_model.specs.world.View.{view_of, concerns, view_step}
 pub use Rattle.coap_model.specs.world.ViewEvents.{first_number, change_events}

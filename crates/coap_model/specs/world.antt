@@ -2,6 +2,7 @@
 pub mod Observers
 pub mod Connections
 pub mod World
+pub mod Responses
 pub mod Events
 pub mod View
 pub mod Handling

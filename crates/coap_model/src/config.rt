@@ -55,7 +55,8 @@ impl Starts {
     /// Returns the start values of a server that starts at this time, in seconds since the epoch. The ids begin at 0.
     ///
     /// Versions begin at 65,536 times the time, and at most at 2^64 - 1. The version of a representation is its ETag. A
-    /// server that starts again therefore repeats no ETag, unless it stored more than 65,536 representations a second.
+    /// server that starts again in a later second therefore repeats no ETag, unless it stored more than 65,536
+    /// representations for each second in between.
     ///
     /// # Examples
     ///

@@ -1,7 +1,7 @@
 //! Theorems on the events of a server. Each is the contract of a function that does nothing. `World` and `Connection`
 //! are the server and one connection in the model (`specs/world`).
 
-ghost use Rattle.std.specs.Prelude.{◌≡◌, ℕ, Bool, ◌<◌, ◌≤◌, List, [], ◌∷◌, ◌++◌, length, true, false, Some, None};
+ghost use Rattle.std.specs.Prelude.{◌≡◌, ℕ, Bool, ◌&&◌, ◌<◌, ◌≤◌, List, [], ◌∷◌, ◌++◌, length, true, false, Some, None};
 ghost use Rattle.coap_model.specs.Prelude.{AllByRecursion, Message, StreamFault, LimitValues, AreInRange, AllFit};
 ghost use Rattle.coap_model.specs.Prelude.{Responder, Delay, delay_of};
 ghost use Rattle.coap_model.specs.Prelude.{bare_response, PendingEntryValue, Answer, Pong, without_due, answers, send};
@@ -16,10 +16,14 @@ ghost use Rattle.coap_model.specs.Prelude.{settled_once, CorrespondTo, QueuesCus
 ghost use Rattle.coap_model.specs.Prelude.{KeepsPendingOver, World, Step, new_world, side_of, step, after_steps};
 ghost use Rattle.coap_model.specs.Prelude.{AcceptedCall, size_on, stream_on, steps_of, world_after, AreAccepted};
 ghost use Rattle.coap_model.specs.Prelude.{kept_on, FollowsAnswers, view_of, after_view, AllConcern, first_number};
-ghost use Rattle.coap_model.specs.Prelude.{view_events, IsLastNotification, TokensAreDistinct, requested_late};
+ghost use Rattle.coap_model.specs.Prelude.{view_events, IsLastNotification, IsRegistered, TokensAreDistinct};
+ghost use Rattle.coap_model.specs.Prelude.{requested_late};
 ghost use Rattle.coap_model.specs.Prelude.{ApplicationsValue, Option, application_deadline, prompt_answer};
 ghost use Rattle.coap_model.specs.Prelude.{passes_checks, immediate_answer, is_answered, is_dynamic, kind_of_path};
 ghost use Rattle.coap_model.specs.Prelude.{path_of, says, only, filter, map, slice_get};
+ghost use Rattle.coap_model.specs.Prelude.{QueuesResponse, is_response, responds, response_with_observe, Server};
+ghost use Rattle.coap_model.specs.Prelude.{may_register, registration_fits, registered_response, without_token};
+ghost use Rattle.coap_model.specs.Prelude.{entry_for, kept_open};
 ghost use Rattle.coap_model.specs.Prelude.{ApplicationRequest, is_for_application, is_unanswered, entry_of};
 ghost use Rattle.coap_model.specs.Prelude.{is_of_application, has_stopped, HasFate, HaveOwnAnswers, HasOnlyAnswer};
 ghost use Rattle.coap_model.specs.Prelude.{requests_on, AreAnswers, given_on, responses_to, IsTimely, has_room};
@@ -117,14 +121,19 @@ pub fn last_announced_size_applies()
 /// States that each observer was last sent the state that its entry records, after any events.
 ///
 /// - `reported`: consider all responses with the observer's token that were ever queued on its connection. The last one
-///   has Observe. It is the 2.05 with the recorded state, or the 2.03 with the ETag of that state. Observers whose
-///   token a request with a delayed response has also used are exempt: the engine or the application delays it.
+///   has Observe. It is the 2.05 with the recorded state; or the 2.03 with the ETag of that state, if the registration
+///   names this ETag. Observers whose token a request with a delayed response has also used are exempt: the engine or
+///   the application delays it.
+/// - `registered`: the last request with the observer's token is its registration, a GET of its path with Observe 0.
 /// - `tokens`: no two observers of a connection have the same token.
 pub fn last_notification_matches_state()
     ensures reported { (c : ConfigValues) (events : List AcceptedCall) (id : ℕ) (s : Connection) →
         side_of id (world_after c events).sides ≡ Some s →
         AllByRecursion (λ o. requested_late c.applications o.token s.history.handled ≡ false →
-        IsLastNotification s.history.queued o) s.observers }
+        IsLastNotification s.history.handled s.history.queued o) s.observers }
+    ensures registered { (c : ConfigValues) (events : List AcceptedCall) (id : ℕ) (s : Connection) →
+        side_of id (world_after c events).sides ≡ Some s →
+        AllByRecursion (IsRegistered s.history.handled) s.observers }
     ensures tokens { (c : ConfigValues) (events : List AcceptedCall) (id : ℕ) (s : Connection) →
         side_of id (world_after c events).sides ≡ Some s → TokensAreDistinct s.observers }
 {}
@@ -169,6 +178,10 @@ pub fn custody_comes_last()
 /// Take any Pong with Custody among the messages that a connection has queued, after any events, even if the connection
 /// has stopped. The server handled a Ping that asked for this Pong. Each request handled before that Ping has its own
 /// response among the messages queued before the Pong.
+///
+/// Pongs with Custody have different Pings, in the same order. So the second one with a token follows the responses to
+/// all requests before the second Ping that asked for it. If the pending list is full, a Ping gets a Pong without
+/// Custody. Such a Ping may be taken for the Ping of a later Pong with its token.
 ///
 /// A response counts if it has the token of the request, even if it is bare or a 5.03. No two requests share one
 /// response. Responses with the same token are not distinguished, so a notification may count as one.
@@ -224,6 +237,57 @@ pub fn pending_entries_are_sent()
         (settled_once store now s).history.queued
         ≡ s.history.queued ++ (send (state_due now (state_now s.history)) (pong_with true token)
         (pong_with false token)).queued }
+{}
+
+/// States that one response is queued for each request that a connection handles (RFC 7252 section 5.2).
+///
+/// - `once`: if the response is not delayed, it is that of `prompt_answer`, with the token of the request, and with
+///   Observe or without. It is queued as it fits the limit, and nothing else is queued.
+/// - `responds`: it has the token of the request, and class 2, 4 or 5, whole or reduced. Whole, it has the code of
+///   `prompt_answer`.
+/// - `delayed`: if the response is delayed, nothing is queued yet. `pending_entries_are_sent` states what is queued
+///   later.
+/// - `other`: for a message that asks for no response, none is queued.
+pub fn requests_are_answered_once()
+    ensures once { (store : StoreValue) (now : ℕ) (s : Connection) (m : Message) → handles s ≡ true →
+        asks_answer s m ≡ true → delay_for (after s.history (call.Handle m)) (delay_of store now m) ≡ None →
+        (observe : Bool)
+        × QueuesResponse m.token observe (prompt_answer store now m).response s (side_after store now s m) }
+    ensures responds { (store : StoreValue) (now : ℕ) (m : Message) (observe : Bool) →
+        let r = response_with_observe m.token observe (prompt_answer store now m).response in
+        (responds m.token r ≡ true) × (responds m.token (bare_response r) ≡ true)
+        × (r.code ≡ (prompt_answer store now m).response.code) }
+    ensures delayed { (store : StoreValue) (now : ℕ) (s : Connection) (m : Message) (d : Delay) → handles s ≡ true →
+        asks_answer s m ≡ true → delay_for (after s.history (call.Handle m)) (delay_of store now m) ≡ Some d →
+        (side_after store now s m).history.queued ≡ s.history.queued }
+    ensures other { (store : StoreValue) (now : ℕ) (s : Connection) (m : Message) → s.history.role ≡ Server →
+        asks_answer s m ≡ false →
+        (more : List Message) × ((side_after store now s m).history.queued ≡ s.history.queued ++ more)
+        × AllByRecursion (λ n. is_response n ≡ false) more }
+{}
+
+/// States that a registration adds an observer (RFC 7641 section 4.1).
+///
+/// A registration is a GET with Observe 0 of an observable resource, whose response has class 2 (`registers`). As any
+/// request, it removes the observer with its token. After that, the limit must allow one more (`may_register`).
+///
+/// - `added`: if the response with Observe fits the limit, it is queued. An observer with the token, the path and its
+///   current state is appended.
+/// - `none`: no other request adds an observer. Those with other tokens are kept, if the connection stays open.
+/// - `regular`: the response to a request that may not register has no Observe, if it is not delayed.
+pub fn registrations_add_observers()
+    ensures added { (store : StoreValue) (now : ℕ) (s : Connection) (m : Message) → handles s ≡ true →
+        asks_answer s m ≡ true → may_register store now s m ≡ true → registration_fits store now s m ≡ true →
+        ((side_after store now s m).observers ≡ without_token m.token s.observers ++ entry_for store now m ∷ [])
+        × ((side_after store now s m).history.queued ≡ s.history.queued ++ registered_response store now m ∷ []) }
+    ensures none { (store : StoreValue) (now : ℕ) (s : Connection) (m : Message) → handles s ≡ true →
+        asks_answer s m ≡ true → (may_register store now s m && registration_fits store now s m) ≡ false →
+        (side_after store now s m).observers
+        ≡ kept_open (side_after store now s m).history (without_token m.token s.observers) }
+    ensures regular { (store : StoreValue) (now : ℕ) (s : Connection) (m : Message) → handles s ≡ true →
+        asks_answer s m ≡ true → may_register store now s m ≡ false →
+        delay_for (after s.history (call.Handle m)) (delay_of store now m) ≡ None →
+        QueuesResponse m.token false (prompt_answer store now m).response s (side_after store now s m) }
 {}
 
 /// States which requests the application answers, and how they are answered at once.
@@ -302,7 +366,7 @@ pub fn application_requests_have_one_fate()
         side_of id (world_after c events).sides ≡ Some s → HaveOwnAnswers (requests_on c id events) }
     ensures given { (c : ConfigValues) (events : List AcceptedCall) (id : ℕ) (s : Connection) → AreAccepted c events →
         side_of id (world_after c events).sides ≡ Some s →
-        AreAnswers (has_stopped s.history.phase) (given_on id events) (responses_to (requests_on c id events)) }
+        AreAnswers s.history (given_on id events) (responses_to (requests_on c id events)) }
 {}
 
 /// States that the deadlines of the requests for the application are kept, after any events.

@@ -15,6 +15,7 @@ pub use coap_model::laws::{
     application_requests_have_one_fate, connections_interact_only_through_store,
     custody_comes_last, last_announced_size_applies, last_notification_matches_state,
     limits_are_kept, pending_entries_are_sent, queued_messages_fit_limit,
+    registrations_add_observers, requests_are_answered_once,
 };
 pub use coap_path::laws as applications;
 pub use coap_server_engine::laws::{

@@ -1,13 +1,14 @@
 -- When a Pong with Custody is queued, each request handled before its Ping already has its response, whatever happens
--- to a connection.
-use Rattle.std.proofs.Common.{Bool, List, None, Option, Some, [], ap, arith, false, is_none, refl, rules, subst}
-use Rattle.std.proofs.Common.{sym, true, ℕ, ◌&&◌, ◌++◌, ◌==◌, ◌∷◌, ◌≡◌, ◌≤◌}
-use Rattle.std.proofs.lemmas.Bool.{both_ways, cond-true, cond_both, or_left}
-use Rattle.std.proofs.lemmas.List.{length-append}
+-- to a connection. No two such Pongs have the same Ping.
+use Rattle.std.proofs.Common.{Bool, IfSome, List, None, Option, Some, [], ap, arith, false, inl, inr, is_none, refl}
+use Rattle.std.proofs.Common.{rules, subst, sym, true, ℕ, ◌&&◌, ◌++◌, ◌==◌, ◌∙◌, ◌∷◌, ◌≡◌, ◌≤◌}
+use Rattle.std.proofs.lemmas.Bool.{both_ways, cases_Bool, cond-true, cond_both, or_left}
+use Rattle.std.proofs.lemmas.List.{append-nil, length-append}
 use Rattle.std.proofs.lemmas.Grind.{common_steps}
 use lib.Pointwise.{bytes_decides}
 use Rattle.coap_model.specs.Prelude.{AcceptedCall, AllByRecursion, Answer, Application, ApplicationsValue, Bare}
-use Rattle.coap_model.specs.Prelude.{ConfigValues, Connection, Engine, FollowsAnswers, History, LimitValues, Message}
+use Rattle.coap_model.specs.Prelude.{ConfigValues, Connection, CorrespondTo, Engine, FollowsAnswers, History}
+use Rattle.coap_model.specs.Prelude.{LimitValues, Message}
 use Rattle.coap_model.specs.Prelude.{Observer, PendingEntryValue, Phase, Pong, Reaction, Reason, Reply, Responder}
 use Rattle.coap_model.specs.Prelude.{Response, Server, Stopped, StoreValue, Whole, after, after_sent}
 use Rattle.coap_model.specs.Prelude.{answers, asks_answer, asks_custody, asks_with, awaits, bare_response, first_due}
@@ -28,10 +29,11 @@ use Rattle.coap_model.proofs.world.GoingOn.{Keeps, kept_after}
 use Rattle.coap_model.proofs.world.SideLaws.{handles_parts, pending_room, settled_cases}
 use Rattle.coap_model.proofs.world.QueuedMessages.{open_answers}
 use Rattle.coap_model.proofs.world.CustodyLaws.{bare_no_pong, handled_cases, request_quiet, response_no_pong}
-use Rattle.coap_model.proofs.world.AnswerCounts.{AllFollow, AtMost, FollowsPing, IfPong, Tally, count_more, follow_at}
-use Rattle.coap_model.proofs.world.AnswerCounts.{follow_grows, follow_longer, follow_then, follow_without, one}
-use Rattle.coap_model.proofs.world.AnswerCounts.{own_answers, pending, pending_count, plus, pongs_other, queue}
-use Rattle.coap_model.proofs.world.AnswerCounts.{requests, responses}
+use Rattle.coap_model.proofs.world.AnswerCounts.{AllFollow, AtMost, FollowsPing, Tally, all_asked, count_more}
+use Rattle.coap_model.proofs.world.AnswerCounts.{follow_at, follow_grows, follow_longer, follow_then, follow_without}
+use Rattle.coap_model.proofs.world.AnswerCounts.{one, own_answers, pending, pending_count, plus, pong_claim, pong_token}
+use Rattle.coap_model.proofs.world.AnswerCounts.{pongs_after, pongs_are, pongs_in, pongs_more, pongs_none, pongs_other}
+use Rattle.coap_model.proofs.world.AnswerCounts.{queue, requests, responses}
 use Rattle.coap_model.proofs.world.AnswerCodes.{bare_coded, coded, prompt_coded}
 use Rattle.coap_model.proofs.world.EntryLemmas.{all_to}
 use Rattle.coap_model.proofs.world.RespondedLaws.{allowed, answered_request, plain_codes, response_is_no_pong}
@@ -44,8 +46,8 @@ nothing token = 0
 -- `first` counts those to be queued before the pending entries, `total` counts all.
 record FollowsBut (first total : Tally) (handled queued : List Message) (entries : List PendingEntryValue)
     (now : Phase) : Type 0 where
-  pongs : AllFollow queue handled nothing queued
-  rest : AllFollow pending handled (plus first (responses queued)) entries
+  pongs : AllFollow queue handled nothing [] queued
+  rest : AllFollow pending handled (plus first (responses queued)) (pongs_in queued) entries
   all : takes_messages now ≡ true → AtMost (requests handled)
       (plus (plus total (responses queued)) (pending_count entries))
   quiet : answers now ≡ false → entries ≡ []
@@ -56,41 +58,67 @@ OwesStill first total h = FollowsBut first total h.handled h.queued h.pending h.
 abbrev PongsFollow : History → Type 0
 PongsFollow h = OwesStill nothing nothing h
 
-plain_follow : (ms : List Message) (n : Tally) (qs : List Message) → AllByRecursion IsPlain qs → AllFollow queue ms n qs
-plain_follow ms n qs plain = pongs_other ms n qs (all_to IsPlain IsNoPong (λ m is. is.1) qs plain)
+-- Messages without such a Pong are queued before the pending entries.
+rest_after : (n : Tally) (ms qs more : List Message) (es : List PendingEntryValue) → AllByRecursion IsNoPong more
+    → AllFollow pending ms n (pongs_in qs) es → AllFollow pending ms n (pongs_in (qs ++ more)) es
+rest_after n ms qs more es others =
+    subst (λ ps. AllFollow pending ms n ps es)
+    (sym (pongs_more queue [] qs more ∙ pongs_none (pongs_in qs) more others))
 
 -- More messages are queued, with a Pong with Custody only if one may be queued.
 module _ {b d : Tally} {ms qs : List Message} {es : List PendingEntryValue} {p : Phase} (is : FollowsBut b d ms qs es p)
-    (more : List Message) (may : AllFollow queue ms (responses qs) more) where
-  pongs_may : AllFollow queue ms nothing (qs ++ more)
-  pongs_may = follow_then queue ms nothing (responses qs) qs more (omega arith) is.pongs may
+    (more : List Message) where
+  pongs_may : AllFollow queue ms (responses qs) (pongs_in qs) more → AllFollow queue ms nothing [] (qs ++ more)
+  pongs_may may = follow_then queue ms nothing (responses qs) [] qs more (omega arith) is.pongs may
 
   -- An owed response is among them, or is still owed.
-  more_follows : {c f : Tally} {q : Phase} → (answers q ≡ false → answers p ≡ false)
+  more_follows : {c f : Tally} {q : Phase} → AllFollow queue ms (responses qs) (pongs_in qs) more
+      → AllFollow pending ms (plus b (responses qs)) (pongs_in (qs ++ more)) es
+      → (answers q ≡ false → answers p ≡ false) → (takes_messages q ≡ true → takes_messages p ≡ true)
+      → AtMost b (plus c (responses more)) → AtMost d (plus f (responses more)) → FollowsBut c f ms (qs ++ more) es q
+  more_follows {c} may rest on takes first total = record {
+    pongs = pongs_may may;
+    rest = follow_grows pending ms (plus b (responses qs)) (plus c (responses (qs ++ more))) (pongs_in (qs ++ more)) es
+        (λ t. omega (arith, first t, count_more (responds t) qs more)) rest;
+    all = λ live t. omega (arith, is.all (takes live) t, total t, count_more (responds t) qs more);
+    quiet = λ off. is.quiet (on off);
+  }
+
+  -- There is no such Pong among them.
+  none_follow : {c f : Tally} {q : Phase} → AllByRecursion IsNoPong more → (answers q ≡ false → answers p ≡ false)
       → (takes_messages q ≡ true → takes_messages p ≡ true) → AtMost b (plus c (responses more))
       → AtMost d (plus f (responses more)) → FollowsBut c f ms (qs ++ more) es q
-  more_follows {c} on takes first total = search (rules, pongs_may, follow_grows, pending, plus, responses, count_more)
+  none_follow others =
+      more_follows (pongs_other ms (responses qs) (pongs_in qs) more others)
+      (rest_after (plus b (responses qs)) ms qs more es others is.rest)
 
   -- The phase of the connection is unchanged.
-  same_follows : {c f : Tally} → AtMost b (plus c (responses more)) → AtMost d (plus f (responses more))
-      → FollowsBut c f ms (qs ++ more) es p
-  same_follows = more_follows (λ off. off) (λ live. live)
+  same_follows : {c f : Tally} → AllByRecursion IsNoPong more → AtMost b (plus c (responses more))
+      → AtMost d (plus f (responses more)) → FollowsBut c f ms (qs ++ more) es p
+  same_follows others = none_follow others (λ off. off) (λ live. live)
 
   -- Or the connection stops.
-  over_follows : {c f : Tally} {q : Phase} → takes_messages q ≡ false → FollowsBut c f ms (qs ++ more) [] q
-  over_follows over = search (rules, pongs_may, both_ways)
+  over_follows : {c f : Tally} {q : Phase} → AllByRecursion IsPlain more → takes_messages q ≡ false
+      → FollowsBut c f ms (qs ++ more) [] q
+  over_follows plain over = record {
+    pongs = pongs_may (pongs_other ms (responses qs) (pongs_in qs) more
+        (all_to IsPlain IsNoPong (λ m is. is.1) more plain));
+    rest = tt;
+    all = λ live. absurd (both_ways _ over live);
+    quiet = λ off. refl;
+  }
 
 -- One more entry is pending.
 pending_follows : {b d f : Tally} {ms qs : List Message} {es : List PendingEntryValue} {p : Phase}
     → FollowsBut b d ms qs es p → (e : PendingEntryValue)
-    → IfPong e (FollowsPing ms (plus (plus b (responses qs)) (pending_count es))) → answers p ≡ true
-    → AtMost d (plus f (pending_count (e ∷ [])))
-    → FollowsBut b f ms qs (es ++ e ∷ []) p
+    → IfSome (pong_token e) (FollowsPing ms (plus (plus b (responses qs)) (pending_count es))
+    (pongs_after pending (pongs_in qs) es))
+    → answers p ≡ true → AtMost d (plus f (pending_count (e ∷ []))) → FollowsBut b f ms qs (es ++ e ∷ []) p
 pending_follows {b} {ms = ms} {qs = qs} {es = es} {p = p} is e may on total = record {
   pongs = is.pongs;
   rest =
-      follow_then pending ms (plus b (responses qs)) (plus (plus b (responses qs)) (pending_count es)) es (e ∷ [])
-      (omega arith) is.rest (may, tt);
+      follow_then pending ms (plus b (responses qs)) (plus (plus b (responses qs)) (pending_count es)) (pongs_in qs) es
+      (e ∷ []) (omega arith) is.rest (may, tt);
   all = λ takes t. omega (arith, is.all takes t, total t, count_more (awaits t) es (e ∷ []));
   quiet = λ off. absurd (both_ways (answers p) off on);
 }
@@ -101,28 +129,47 @@ pending_follows {b} {ms = ms} {qs = qs} {es = es} {p = p} is e may on total = re
 abbrev OwesToken : Tally → List ℕ → Type 0
 OwesToken d token = (other : List ℕ) → d other ≤ one (same_bytes token other)
 
--- The message may be queued, and reduces both counts.
-abbrev IsPaying : Tally → Tally → History → Message → Type 0
-IsPaying b d h m =
-    AllFollow queue h.handled (responses h.queued) (m ∷ []) × AtMost b (plus nothing (responses (m ∷ [])))
-    × AtMost d (plus nothing (responses (m ∷ [])))
+-- The message may be queued before these entries, and reduces both counts.
+record IsPaying (b d : Tally) (h : History) (es : List PendingEntryValue) (m : Message) : Type 0 where
+  may : AllFollow queue h.handled (responses h.queued) (pongs_in h.queued) (m ∷ [])
+  rest : AllFollow pending h.handled (plus b (responses h.queued)) (pongs_in (h.queued ++ m ∷ [])) es
+  first : AtMost b (plus nothing (responses (m ∷ [])))
+  total : AtMost d (plus nothing (responses (m ∷ [])))
 
--- A message is sent when these entries are pending.
-send_follows : {b d : Tally} (h : History) (es : List PendingEntryValue)
-    → FollowsBut b d h.handled h.queued es h.phase → (m less : Message) → IsPaying b d h m → IsPaying b d h less
-    → (r : Reply) → PongsFollow (with_effect h (send_as (record (state_now h) { pending = es }) m less r))
-send_follows h es is m less whole bare Whole = same_follows is (m ∷ []) whole.0 whole.1 whole.2
-send_follows h es is m less whole bare Bare = same_follows is (less ∷ []) bare.0 bare.1 bare.2
-send_follows h es is m less whole bare Stopped = over_follows is [] tt refl
+module _ {b d : Tally} (h : History) (es : List PendingEntryValue)
+    (is : FollowsBut b d h.handled h.queued es h.phase) where
+  -- A message that is no Pong with Custody.
+  other_pays : (m : Message) → IsNoPong m → AtMost b (plus nothing (responses (m ∷ [])))
+      → AtMost d (plus nothing (responses (m ∷ []))) → IsPaying b d h es m
+  other_pays m other first total = record {
+    may = pongs_other h.handled (responses h.queued) (pongs_in h.queued) (m ∷ []) (other, tt);
+    rest = rest_after (plus b (responses h.queued)) h.handled h.queued (m ∷ []) es (other, tt) is.rest;
+    first = first;
+    total = total;
+  }
+
+  paid_follows : (m : Message) → IsPaying b d h es m
+      → FollowsBut nothing nothing h.handled (h.queued ++ m ∷ []) es h.phase
+  paid_follows m pays =
+      more_follows is (m ∷ []) pays.may pays.rest (λ off. off) (λ live. live) pays.first pays.total
+
+  -- A message is sent when these entries are pending.
+  send_follows : (m less : Message) → IsPaying b d h es m → IsPaying b d h es less → (r : Reply)
+      → PongsFollow (with_effect h (send_as (record (state_now h) { pending = es }) m less r))
+  send_follows m less whole bare Whole = paid_follows m whole
+  send_follows m less whole bare Bare = paid_follows less bare
+  send_follows m less whole bare Stopped = over_follows is [] tt refl
 
 token_pays : (b : Tally) (m : Message) → OwesToken b m.token → is_response m ≡ true
     → AtMost b (plus nothing (responses (m ∷ [])))
 token_pays b m owes is = grind arith
 
 -- A response that is owed.
-response_pays : (b d : Tally) (h : History) (m : Message) → OwesToken b m.token → OwesToken d m.token
-    → is_response m ≡ true → IsPaying b d h m
-response_pays b d h m first total is = search (rules, pongs_other, response_is_no_pong, token_pays)
+response_pays : (b d : Tally) (h : History) (es : List PendingEntryValue) → FollowsBut b d h.handled h.queued es h.phase
+    → (m : Message) → OwesToken b m.token → OwesToken d m.token → is_response m ≡ true → IsPaying b d h es m
+response_pays b d h es is m first total responds =
+    other_pays h es is m (response_is_no_pong m responds) (token_pays b m first responds)
+    (token_pays d m total responds)
 
 owed_follows : (b d : Tally) (h : History) → OwesStill b d h → (token : List ℕ) (observe : Bool) (r : Response)
     → answers h.phase ≡ true → coded r.code ≡ true → OwesToken b token → OwesToken d token
@@ -139,7 +186,24 @@ module _ (h : History) (m : Message) (server : h.role ≡ Server) (live : takes_
 
   -- If the message is a request, a response is owed.
   request_follows : FollowsBut nothing (λ t. one (asks_with t m)) now_handled h.queued h.pending h.phase
-  request_follows = search (rules, follow_longer, queue, pending, plus, responses, count_more)
+  request_follows = record {
+    pongs = follow_longer queue h.handled (m ∷ []) now_handled nothing nothing [] [] h.queued refl (omega arith)
+        (λ ns stand. stand) is.pongs;
+    rest = follow_longer pending h.handled (m ∷ []) now_handled (plus nothing (responses h.queued))
+        (plus nothing (responses h.queued)) (pongs_in h.queued) (pongs_in h.queued) h.pending refl (omega arith)
+        (λ ns stand. stand) is.rest;
+    all = λ takes t. omega (arith, is.all takes t, count_more (asks_with t) h.handled (m ∷ []));
+    quiet = is.quiet;
+  }
+
+  -- The messages handled before asked for the Pongs that are queued or pending.
+  queued_asked : CorrespondTo None h.handled (pongs_in h.queued)
+  unfolding CorrespondTo
+  queued_asked = all_asked queue h.handled nothing [] h.queued is.pongs tt
+
+  pending_asked : CorrespondTo None h.handled (pongs_after pending (pongs_in h.queued) h.pending)
+  pending_asked =
+      all_asked pending h.handled (plus nothing (responses h.queued)) (pongs_in h.queued) h.pending is.rest queued_asked
 
   -- The reaction leaves a response owed only for a request.
   abbrev owed : Reaction → Tally
@@ -152,31 +216,48 @@ module _ (h : History) (m : Message) (server : h.role ≡ Server) (live : takes_
   unrequested : (n : Tally) → is_asking m ≡ false → AtMost (λ t. one (asks_with t m)) n
   unrequested n other t = omega (arith, ap (λ (b : Bool). one (b && same_bytes m.token t)) other)
 
-  ping_follows : (n : Tally) → AtMost (requests h.handled) n → (m.code == code.ping) ≡ true → asks_custody m ≡ true
-      → FollowsPing now_handled n m.token
-  ping_follows n few ping custody = search (rules, bytes_decides)
+  ping_follows : (n : Tally) (ps : List PendingEntryValue) → AtMost (requests h.handled) n
+      → CorrespondTo None h.handled ps → (m.code == code.ping) ≡ true → asks_custody m ≡ true
+      → FollowsPing now_handled n ps m.token
+  ping_follows n ps few own ping custody = search (rules, bytes_decides)
 
   -- A Pong with Custody is queued at once only if nothing is pending.
-  may_follow : (n : Message) → MayFollow (state_now h) m n → (is_custody_pong n ≡ true → h.pending ≡ [])
-      → is_custody_pong n ≡ true → FollowsPing now_handled (responses h.queued) n.token
-  may_follow n may first custody = search (rules, responses, ping_follows, pending_count)
+  module _ (n : Message) (may : MayFollow (state_now h) m n) (alone : is_custody_pong n ≡ true → h.pending ≡ []) where
+    may_follow : is_custody_pong n ≡ true → FollowsPing now_handled (responses h.queued) (pongs_in h.queued) n.token
+    may_follow custody =
+        let pong = may.pong custody in
+        rw pong.2 (ping_follows (responses h.queued) (pongs_in h.queued)
+        (λ t. omega (arith, is.all live t, ap (λ es. pending_count es t) (alone custody))) queued_asked pong.0 pong.1)
+
+    rest_follows : AllFollow pending now_handled (plus nothing (responses h.queued)) (pongs_in (h.queued ++ n ∷ []))
+        h.pending
+    rest_follows =
+        elim (cases_Bool (is_custody_pong n)) [
+          | inl custody ↦ rw (alone custody) tt
+          | inr other ↦ rest_after (plus nothing (responses h.queued)) now_handled h.queued (n ∷ []) h.pending
+              (other, tt) request_follows.rest
+        ]
+
+    alone_follows : {f : Tally} → is_asking m ≡ false
+        → FollowsBut nothing f now_handled (h.queued ++ n ∷ []) h.pending h.phase
+    alone_follows other =
+        more_follows request_follows (n ∷ []) (pong_claim n _ may_follow, tt) rest_follows (λ off. off) (λ on. on)
+        (omega arith) (unrequested _ other)
 
   unless_follows : (over : Option Reason) → is_none over ≡ true → Claim (reaction_unless (state_now h) m over)
   unless_follows None none = live_so (state_now h) m Claim (record {
     requested = λ first. same_follows request_follows [] tt (omega arith) (omega arith);
-    silent = λ now outstanding what other may on first. more_follows request_follows [] tt on (λ takes. live)
+    silent = λ now outstanding what other may on first. none_follow request_follows [] tt on (λ takes. live)
         (omega arith) (unrequested _ other);
-    stops = λ why farewell what plain one may first. over_follows request_follows farewell
-        (plain_follow now_handled (responses h.queued) farewell plain) refl;
-    queues = λ n what may first. same_follows request_follows (n ∷ []) (
-      may_follow n may (λ custody. first (or_left _ false custody)),
-      tt,
-    ) (omega arith) (unrequested _ (may.plain server).1);
+    stops = λ why farewell what plain one may first. over_follows request_follows farewell plain refl;
+    queues = λ n what may first. alone_follows n may (λ custody. first (or_left _ false custody)) (may.plain server).1;
     keeps = λ now other ping custody some first. (
         let still : FollowsBut nothing nothing now_handled (h.queued ++ []) h.pending h.phase =
         same_follows request_follows [] tt (omega arith) (unrequested nothing other) in
         pending_follows still (Pong m.token)
-        (ping_follows _ (λ t. omega (arith, is.all live t, count_more (responds t) h.queued [])) ping custody)
+        (ping_follows _ _ (λ t. omega (arith, is.all live t, count_more (responds t) h.queued []))
+        (subst (λ qs. CorrespondTo None h.handled (pongs_after pending (pongs_in qs) h.pending))
+        (sym (append-nil h.queued)) pending_asked) ping custody)
         (grind arith) (omega arith)
         );
   })
@@ -231,7 +312,20 @@ module _ (h : History) (is : PongsFollow h) (before : List PendingEntryValue) (e
 
   -- The response of a removed entry is still to be queued.
   let_go : FollowsBut (pending_count (e ∷ [])) (pending_count (e ∷ [])) h.handled h.queued (before ++ rest) h.phase
-  let_go = search (rules, follow_without, pending, plus, responses, pending_count, count_more, both_ways, pending_on)
+  let_go = record {
+    pongs = is.pongs;
+    rest = follow_without pending h.handled (plus nothing (responses h.queued))
+        (plus (pending_count (e ∷ [])) (responses h.queued)) (pongs_in h.queued) before e rest (omega arith)
+        (subst (AllFollow pending h.handled (plus nothing (responses h.queued)) (pongs_in h.queued)) there is.rest);
+    all = λ takes t. omega (
+      arith,
+      is.all takes t,
+      ap (λ es. pending_count es t) there,
+      count_more (awaits t) before (e ∷ rest),
+      count_more (awaits t) before rest,
+    );
+    quiet = λ off. absurd (both_ways _ off pending_on);
+  }
 
 late_coded : (by : Responder) → coded (late_response by).code ≡ true
 late_coded Engine = refl
@@ -252,14 +346,28 @@ sent_due h now (Answer by token moment) due is =
     (pending_on h is first.before e first.after first.there) (late_coded by) (omega arith) (omega arith))
 sent_due h now (Pong token) due is =
     let there = due_pong now h.pending token due in
-    let rest : FollowsPing h.handled (responses h.queued) token =
-    follow_at pending h.handled (plus nothing (responses h.queued)) (responses h.queued) []
-    (Pong token) (without_due now h.pending)
-    (omega arith) (subst (AllFollow pending h.handled (plus nothing (responses h.queued))) there is.rest) in
+    let later : List PendingEntryValue = without_due now h.pending in
+    let n : Tally = pending_count (Pong token ∷ []) in
+    let queued : Tally = responses h.queued in
+    let rest : AllFollow pending h.handled (plus nothing queued) (pongs_in h.queued) (Pong token ∷ later) =
+    subst (AllFollow pending h.handled (plus nothing queued) (pongs_in h.queued)) there is.rest in
+    let left = let_go h is [] (Pong token) later there in
+    let whole : IsPaying n n h later (pong_with true token) = record {
+      may = (
+        follow_at pending h.handled (plus nothing queued) queued (pongs_in h.queued) [] (Pong token) later
+            (omega arith) rest,
+        tt,
+      );
+      rest = subst (λ ps. AllFollow pending h.handled (plus n queued) ps later)
+          (sym (pongs_more queue [] h.queued (pong_with true token ∷ [])))
+          (follow_grows pending h.handled (plus (plus nothing queued) n) (plus n queued)
+          (pongs_in h.queued ++ Pong token ∷ []) later (omega arith) rest.1);
+      first = omega arith;
+      total = omega arith;
+    } in
     subst PongsFollow (sym (due_is h now (Some (Pong token)) due))
-    (send_follows h (without_due now h.pending) (let_go h is [] (Pong token) (without_due now h.pending) there)
-    (pong_with true token) (pong_with false token) ((λ custody. rest, tt), omega arith, omega arith)
-    ((λ custody. absurd cc, tt), omega arith, omega arith)
+    (send_follows h later left (pong_with true token) (pong_with false token) whole
+    (other_pays h later left (pong_with false token) refl (omega arith) (omega arith))
     (fit (state_now h).limit (pong_with true token) (pong_with false token)))
 
 -- A response of the application answers a request that is pending.
@@ -273,9 +381,11 @@ responded_follows h m none is =
     let left : FollowsBut n n h.handled h.queued (without_request m.token h.pending) h.phase =
     subst (λ es. FollowsBut n n h.handled h.queued es h.phase) (sym first.without)
     (let_go h is first.before e first.after first.there) in
-    send_follows h (without_request m.token h.pending) left m (bare_response m)
-    (response_pays n n h m (omega arith) (omega arith) codes.0)
-    (response_pays n n h (bare_response m) (omega arith) (omega arith) codes.1) (fit (limit_now h) m (bare_response m))
+    let others = without_request m.token h.pending in
+    send_follows h others left m (bare_response m)
+    (response_pays n n h others left m (omega arith) (omega arith) codes.0)
+    (response_pays n n h others left (bare_response m) (omega arith) (omega arith) codes.1)
+    (fit (limit_now h) m (bare_response m))
 
 -- A notification is a response that nobody is owed.
 notified_follows : (store : StoreValue) (now : ℕ) (s : Connection) (found : Option Observer) → PongsFollow s.history
@@ -285,8 +395,8 @@ notified_follows store now s (Some o) is =
     let r : Response = notification store now o in
     let h : History = s.history in
     let m : Message = response_with_observe o.token (goes_on r) r in
-    let pays : (n : Message) → IsNoPong n → IsPaying nothing nothing h n =
-    λ n none. (pongs_other h.handled (responses h.queued) (n ∷ []) (none, tt), omega arith, omega arith) in
+    let pays : (n : Message) → IsNoPong n → IsPaying nothing nothing h h.pending n =
+    λ n none. other_pays h h.pending is n none (omega arith) (omega arith) in
     cond_both (answers h.phase) _ h PongsFollow
     (λ does. send_follows h h.pending is m (bare_response m) (pays m (response_no_pong o.token (goes_on r) r))
     (pays (bare_response m) (bare_no_pong m)) (fit (limit_now h) m (bare_response m))) (λ off. is)
@@ -295,19 +405,18 @@ notified_follows store now s (Some o) is =
 
 follows_keeps : (limits : LimitValues) (a : Option ApplicationsValue) → Keeps limits a (λ s. PongsFollow s.history)
 follows_keeps limits a = let R : History → History → Type 0 = λ h k. PongsFollow h → PongsFollow k in record {
-  first = record { pongs = (λ custody. absurd cc, tt); rest = tt; all = λ takes t. omega arith; quiet = λ off. refl };
+  first = record { pongs = (tt, tt); rest = tt; all = λ takes t. omega arith; quiet = λ off. refl };
   handled = λ store now s m same side is. after_follows store now s m side.is_server is;
-  faulted = faulted_between R (λ h is. is) (λ h fault takes room is. over_follows is _
-      (plain_follow h.handled (responses h.queued) _ (abort_plain (limit_now h) (reject_reason fault))) refl);
+  faulted =
+      faulted_between R (λ h is. is)
+      (λ h fault takes room is. over_follows is _ (abort_plain (limit_now h) (reject_reason fault)) refl);
   written = written_between R (λ h is. is) (λ h n within is. is);
   ended = ended_between R (λ h is. is) (λ h cut takes is. over_follows is [] tt refl);
   released =
       released_between R (λ h is. is)
-      (λ h opened none is. over_follows is (release ∷ []) (λ custody. absurd cc, tt) refl);
-  announced = announced_between R (λ h is. is) (λ h size opened room fit is. same_follows is (own_csm size ∷ []) (
-    λ custody. absurd cc,
-    tt,
-  ) (omega arith) (omega arith));
+      (λ h opened none is. over_follows is (release ∷ []) ((refl, refl), tt) refl);
+  announced = announced_between R (λ h is. is)
+      (λ h size opened room fit is. same_follows is (own_csm size ∷ []) (refl, tt) (omega arith) (omega arith));
   responded = responded_between R (λ h is. is) (λ h m answering none is. responded_follows h m none is);
   reported = λ store now s is. settled_cases store now s (λ t. PongsFollow t.history)
       (λ e found. sent_due s.history now e (pending_room now s e found).1 is)
@@ -322,13 +431,15 @@ pub pong_follows_answers : (c : ConfigValues) (es : List AcceptedCall) (id : ℕ
 pong_follows_answers c es id s before pong rest there queued custody =
     let is : PongsFollow s.history =
     kept_after c (λ t. PongsFollow t.history) (follows_keeps c.limits c.applications) es id s there in
-    let at = follow_at queue s.history.handled nothing (responses before) before pong rest (omega arith)
-    (subst (AllFollow queue s.history.handled nothing) queued is.pongs) custody in
+    let at : FollowsPing s.history.handled (responses before) (pongs_in before) pong.token =
+    rw custody at (follow_at queue s.history.handled nothing (responses before) [] before pong rest (omega arith)
+    (subst (AllFollow queue s.history.handled nothing []) queued is.pongs)) in
     record {
       earlier = at.earlier;
       ping = at.ping;
       later = at.later;
       there = at.there;
       asks = at.asks;
+      own = subst (CorrespondTo None at.earlier) (pongs_are [] before) at.own;
       answered = own_answers at.earlier before at.few;
     }

@@ -1,7 +1,7 @@
 -- Pending entries are in the order of the messages that asked for them. A Pong with Custody is queued only if no entry
 -- from before its Ping is pending.
 use Rattle.std.proofs.Common.{◌≡◌, ℕ, zero, suc, Bool, true, false, ◌&&◌, ◌==◌, List, [], ◌∷◌, ◌++◌, length, Option}
-use Rattle.std.proofs.Common.{Some, None, refl, sym, ◌∙◌, inl, inr, ◌⊎◌, arith, append_assoc}
+use Rattle.std.proofs.Common.{Some, None, refl, sym, ap, ◌∙◌, inl, inr, ◌⊎◌, arith, append_assoc}
 use Rattle.coap_model.specs.Prelude.{Responder, AllByRecursion, list_any, remove, Message, Phase, LimitValues}
 use Rattle.coap_model.specs.Prelude.{takes_messages, answers, is_open, fit, bare_response, PendingEntryValue, Answer}
 use Rattle.coap_model.specs.Prelude.{Pong, without_due, is_custody_pong, History, limit_now, state_now, after, may_hold}
@@ -115,6 +115,14 @@ custody_comes_first store now s custody =
 
 -- ---- the order of pending entries
 
+-- The first of these messages asked for these entries, and the others for those.
+pub record StandApart (a : Option ApplicationsValue) (ms : List Message) (es fs : List PendingEntryValue) : Type 0 where
+  pub first : List Message
+  pub others : List Message
+  pub there : ms ≡ first ++ others
+  pub those : CorrespondTo a first es
+  pub rest : CorrespondTo a others fs
+
 module _ (a : Option ApplicationsValue) where
   -- One more message.
   stand_skip : (m : Message) (ms : List Message) (es : List PendingEntryValue)
@@ -124,7 +132,7 @@ module _ (a : Option ApplicationsValue) where
   stand_skip m ms (e ∷ es) stand = inr stand
 
   -- More messages, with the entries that they ask for.
-  stand_append : (ms ns : List Message) (es fs : List PendingEntryValue)
+  pub stand_append : (ms ns : List Message) (es fs : List PendingEntryValue)
       → CorrespondTo a ms es → CorrespondTo a ns fs → CorrespondTo a (ms ++ ns) (es ++ fs)
   unfolding CorrespondTo
   stand_append [] ns [] fs stand more = more
@@ -132,6 +140,31 @@ module _ (a : Option ApplicationsValue) where
   stand_append (m ∷ ms) ns [] fs stand more = stand_skip m (ms ++ ns) fs (stand_append ms ns [] fs tt more)
   stand_append (m ∷ ms) ns (e ∷ es) fs (inl here) more = inl (here.0, stand_append ms ns es fs here.1 more)
   stand_append (m ∷ ms) ns (e ∷ es) fs (inr later) more = inr (stand_append ms ns (e ∷ es) fs later more)
+
+  -- Of the messages that asked for entries in a row, the first asked for the first entries.
+  pub stand_apart : (ms : List Message) (es fs : List PendingEntryValue) → CorrespondTo a ms (es ++ fs)
+      → StandApart a ms es fs
+  unfolding CorrespondTo
+  stand_apart ms [] fs stand = record { first = []; others = ms; there = refl; those = tt; rest = stand }
+  stand_apart [] (e ∷ es) fs stand = absurd stand
+  stand_apart (m ∷ ms) (e ∷ es) fs (inl here) =
+      let apart = stand_apart ms es fs here.1 in
+      record {
+        first = m ∷ apart.first;
+        others = apart.others;
+        there = ap (λ (ns : List Message). m ∷ ns) apart.there;
+        those = inl (here.0, apart.those);
+        rest = apart.rest;
+      }
+  stand_apart (m ∷ ms) (e ∷ es) fs (inr later) =
+      let apart = stand_apart ms (e ∷ es) fs later in
+      record {
+        first = m ∷ apart.first;
+        others = apart.others;
+        there = ap (λ (ns : List Message). m ∷ ns) apart.there;
+        those = inr apart.those;
+        rest = apart.rest;
+      }
 
   -- A message asks for the entry that it adds.
   stand_added : (m : Message) (es : List PendingEntryValue) → AddsRequested a m es

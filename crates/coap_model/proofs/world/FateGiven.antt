@@ -10,14 +10,18 @@ use Rattle.std.proofs.lemmas.List.Sorted.{IsPermutation-push_more, IsPermutation
 use Rattle.std.proofs.lemmas.List.Sorted.{IsPermutation-trans}
 use Rattle.coap_model.specs.Prelude.{AcceptedCall, AllByRecursion, Answered, Application, ApplicationRequest}
 use Rattle.coap_model.specs.Prelude.{AreAccepted, AreAnswers, AreQueuedInOrder, ConfigValues, Connection, Engine, Fate}
-use Rattle.coap_model.specs.Prelude.{History, IsAccepted, LimitValues, Message, Phase, Step, StoreValue, Unanswered}
-use Rattle.coap_model.specs.Prelude.{World, acted, after_steps, answers, fate_by, given_in, given_on, has_stopped}
-use Rattle.coap_model.specs.Prelude.{is_unanswered, is_unanswered_with, late_message, link_of, list_any, new_request}
+use Rattle.coap_model.specs.Prelude.{History, IsAccepted, IsUnfit, LimitValues, Message, PeerTooSmall, Reason, Reply}
+use Rattle.coap_model.specs.Prelude.{Step, StoreValue, Unanswered, World, acted, after_steps, answers, bare_response}
+use Rattle.coap_model.specs.Prelude.{due_index, fate_by, fate_of, first_due, fit, fitted, given_in, given_on}
+use Rattle.coap_model.specs.Prelude.{is_unanswered, without_due}
+use Rattle.coap_model.specs.Prelude.{is_unanswered_with, late_message, limit_now, link_of, list_any, new_request}
 use Rattle.coap_model.specs.Prelude.{requests_acted, requests_after, requests_by, requests_on, requests_responded}
 use Rattle.coap_model.specs.Prelude.{requests_then, response_of, response_refusal, responses_to, settled, side_of}
 use Rattle.coap_model.specs.Prelude.{side_responded, steps_by, with_fate, without_request, world_after}
 use Rattle.coap_wire.proofs.NumberLaws.{none_or_some}
 use Rattle.coap_conn.specs.PendingEntries.{is_request_for}
+use Rattle.coap_conn.specs.declared.phase.Phase.TheVariants.{Stopped}
+use Rattle.coap_conn.specs.declared.phase.Reply.TheVariants as reply
 use Rattle.coap_model.specs.world.Events as event
 use Rattle.coap_model.specs.world.World as world
 use Rattle.coap_model.proofs.OptionLemmas.{same_there}
@@ -28,7 +32,7 @@ use Rattle.coap_model.proofs.world.ReachedLaws.{IsReached, OpensNext, accepted_i
 use Rattle.coap_model.proofs.world.PlaceLaws.{nobody}
 use Rattle.coap_model.proofs.world.EntryLemmas.{all_append, all_to}
 use Rattle.coap_model.proofs.world.FateLists.{IsOld, fate_cases, old_fate, waits}
-use Rattle.coap_model.proofs.world.FateLaws.{Accounted, IsKept, IsNext, one_waits, sent_so}
+use Rattle.coap_model.proofs.world.FateLaws.{Accounted, IsKept, IsNext, one_waits}
 use Rattle.coap_model.proofs.world.FateKept.{after_message, answers_if_allowed, requests_accounted, response_next}
 use Rattle.coap_model.proofs.world.AnswerCounts.{one}
 use Rattle.coap_model.proofs.world.FateWalk.{acted_cases, before_steps, expires, requests_last, steps_stay, then_stays}
@@ -132,25 +136,44 @@ others_give limits id w ss rs apart =
     (λ is. absurd ((subst (IsOther id) is other) refl)) (λ m s is there. after_gives v.store v.now s m qs ∙ same)
     (λ m s is there. absurd ((subst (IsOther id) is other) refl))) w ss rs apart refl
 
--- ---- connections that have not stopped
+-- ---- connections that have stopped
 
--- A connection that has not stopped had not stopped before.
-abbrev Runs : History → History → Type 0
-Runs h k = has_stopped k.phase ≡ false → has_stopped h.phase ≡ false
+-- A connection has stopped for this reason, and no entry is pending.
+abbrev IsOver : History → Reason → Type 0
+IsOver h why = (h.pending ≡ []) × (h.phase ≡ Stopped why)
 
-answers_runs : (p : Phase) → answers p ≡ true → has_stopped p ≡ false
-answers_runs p on = grind arith
+-- If it has stopped, the reason and the limit stay.
+abbrev Stays : History → History → Type 0
+Stays h k = (why : Reason) → IsOver h why → IsOver k why × (limit_now k ≡ limit_now h)
 
-all_run : KeepsAll Runs
-all_run = search rules
+all_stay : KeepsAll Stays
+unfolding without_due first_due due_index
+all_stay = grind arith
 
--- A connection existed before such steps, and had not stopped if it has not stopped after them.
+still_unfit : (h k : History) → (answers h.phase ≡ false → h.pending ≡ []) → Stays h k → (m : Message) → IsUnfit h m
+    → IsUnfit k m
+still_unfit h k quiet stays m unfit =
+    let over = stays PeerTooSmall (quiet (rw unfit.1 refl), unfit.1) in (rw over.1 unfit.0, over.0.1)
+
+-- If responses are sent, none was lost.
+none_unfit : (h : History) (ms : List Message) → answers h.phase ≡ true → AllByRecursion (IsUnfit h) ms → ms ≡ []
+none_unfit h [] on unfit = refl
+none_unfit h (m ∷ ms) on unfit = absurd (both_ways (answers h.phase) (ap answers unfit.0.1) on)
+
+-- A connection existed before such steps.
 others_before : (limits : LimitValues) (id : ℕ) (w : World) (ss : List Step) (t : Connection)
     → AllByRecursion (IsOther id) ss → side_of id (after_steps limits w ss).sides ≡ Some t
-    → (s : Connection) × (side_of id w.sides ≡ Some s) × Runs s.history t.history
+    → (s : Connection) × (side_of id w.sides ≡ Some s) × Stays s.history t.history
 others_before limits id =
-    before_steps Runs Runs all_run.composes.same all_run.composes.then limits id (IsOther id) (λ apart. apart refl)
-    (λ w st other. all_across Runs all_run w st id)
+    before_steps Stays Stays all_stay.composes.same all_stay.composes.then limits id (IsOther id) (λ apart. apart refl)
+    (λ w st other. all_across Stays all_stay w st id)
+
+-- A response that is not queued does not fit.
+none_fits : (m : Message) (r : Reply) (handled place : ℕ)
+    → is_unanswered (fate_of Application m (fitted m (bare_response m) r) handled place) ≡ true → r ≡ reply.Stopped
+none_fits m reply.Whole handled place none = absurd cc
+none_fits m reply.Bare handled place none = absurd cc
+none_fits m reply.Stopped handled place none = refl
 
 -- ---- events
 
@@ -211,7 +234,7 @@ module _ (c : ConfigValues) (id : ℕ) where
   record AreAll (es : List AcceptedCall) : Type 0 where
     none : (world_after c es).ids < id → given_on id es ≡ []
     answers_all : (s : Connection) → side_of id (world_after c es).sides ≡ Some s
-        → AreAnswers (has_stopped s.history.phase) (given_on id es) (responses_to (requests_on c id es))
+        → AreAnswers s.history (given_on id es) (responses_to (requests_on c id es))
 
   first_all : AreAll []
   unfolding given_on
@@ -237,6 +260,7 @@ module _ (c : ConfigValues) (id : ℕ) where
               let before = others_before c.limits id reached_world (steps_by M es e) t steps
               (ap (λ (v : World). side_of id v.sides) (sym (world_more c es e)) ∙ there) in
               let were = is.answers_all before.0 before.1 in
+              let quiet = (requests_accounted c es id before.0 before.1).quiet in
               let responses : responses_to (requests_on c id (es ++ e ∷ [])) ≡ responses_to rs =
               ap responses_to (requests_last c id es e)
               ∙ others_give c.limits id reached_world (steps_by M es e) rs steps in
@@ -247,7 +271,8 @@ module _ (c : ConfigValues) (id : ℕ) where
                 lost = were.lost;
                 given_are = same ∙ were.given_are;
                 few = were.few;
-                none = λ live. were.none (before.2 live);
+                unfit = all_to (IsUnfit before.0.history) (IsUnfit t.history)
+                    (still_unfit before.0.history t.history quiet before.2) were.lost were.unfit;
               });
         }
 
@@ -274,7 +299,7 @@ module _ (c : ConfigValues) (id : ℕ) where
             lost = [];
             given_are = same;
             few = omega arith;
-            none = λ live. refl;
+            unfit = tt;
           };
         }
 
@@ -297,11 +322,11 @@ module _ (c : ConfigValues) (id : ℕ) where
       on = answers_if_allowed h m account.quiet allows
 
       -- The responses before, all of which were answers.
-      were : AreAnswers (has_stopped h.phase) (given_on id es) (responses_to rs)
+      were : AreAnswers h (given_on id es) (responses_to rs)
       were = is.answers_all s there
 
       given_now : given_on id (es ++ event.Responded id m ∷ []) ≡ map (λ n. n.0) were.order ++ m ∷ []
-      given_now = search (rules, given_then, eq-eqb, were, answers_runs, on, append-nil)
+      given_now = search (rules, given_then, eq-eqb, were, none_unfit, on, append-nil)
 
       earlier : AllByRecursion (λ n. n.1 < length h.queued) were.order
       earlier =
@@ -323,12 +348,12 @@ module _ (c : ConfigValues) (id : ℕ) where
       placed = (m, length h.queued)
 
       -- The response is queued, or the connection stops.
-      answers_by : (stopped : Bool) → (is_unanswered (fate_by Application h m) ≡ true → stopped ≡ true)
-          → AreAnswers stopped (given_on id (es ++ event.Responded id m ∷ []))
+      answers_by : (k : History) → (is_unanswered (fate_by Application h m) ≡ true → IsUnfit k m)
+          → AreAnswers k (given_on id (es ++ event.Responded id m ∷ []))
           (responses_to (with_fate test (fate_by Application h m) rs))
-      answers_by stopped =
-          fate_cases (λ fate. (is_unanswered fate ≡ true → stopped ≡ true)
-          → AreAnswers stopped (given_on id (es ++ event.Responded id m ∷ [])) (responses_to (with_fate test fate rs)))
+      answers_by k =
+          fate_cases (λ fate. (is_unanswered fate ≡ true → IsUnfit k m)
+          → AreAnswers k (given_on id (es ++ event.Responded id m ∷ [])) (responses_to (with_fate test fate rs)))
           Application h m (λ over. record {
             order = were.order;
             same = rw (responses_with test Unanswered refl waiting rs) were.same;
@@ -336,7 +361,7 @@ module _ (c : ConfigValues) (id : ℕ) where
             lost = m ∷ [];
             given_are = given_now;
             few = omega arith;
-            none = λ live. absurd (cc (over refl));
+            unfit = (over refl, tt);
           }) (λ sent over. (
           let fate : Fate = Answered Application m sent (length h.handled) (length h.queued) in
           record {
@@ -351,13 +376,23 @@ module _ (c : ConfigValues) (id : ℕ) where
             lost = [];
             given_are = given_now ∙ rw (append-nil, map-append) refl;
             few = omega arith;
-            none = λ live. refl;
+            unfit = tt;
           }))
 
       -- A connection on which the response did not fit has stopped.
-      over_then : is_unanswered (fate_by Application h m) ≡ true → has_stopped settled_so.history.phase ≡ true
+      over_at_once : fit (limit_now h) m (bare_response m) ≡ reply.Stopped
+          → IsOver (side_responded s m).history PeerTooSmall × (limit_now (side_responded s m).history ≡ limit_now h)
       unfolding side_responded
-      over_then none = search (rules, sent_so, next, on, cases_Bool, settled_between, all_run, both_ways)
+      over_at_once stops = rw (on, allows, stops) ((refl, refl), refl)
+
+      over_then : is_unanswered (fate_by Application h m) ≡ true → IsUnfit settled_so.history m
+      over_then none =
+          let stops = none_fits m (fit (limit_now h) m (bare_response m)) (length h.handled) (length h.queued)
+          (rw on at none) in
+          let over = over_at_once stops in
+          let then = settled_between Stays all_stay.composes all_stay.replies all_stay.lets_go all_stay.pongs
+          reached_world.store reached_world.now (side_responded s m) PeerTooSmall over.0 in
+          (rw (then.1, over.1) stops, then.0.1)
 
       there_then : side_of id (world_after c (es ++ event.Responded id m ∷ [])).sides ≡ Some settled_so
       unfolding steps_by after_steps world.step acted
@@ -379,11 +414,10 @@ module _ (c : ConfigValues) (id : ℕ) where
           (number_given c reached_world id s reached.numbered there).within,
         ));
         answers_all = λ t now.
-            subst (λ (u : Connection). AreAnswers (has_stopped u.history.phase)
-            (given_on id (es ++ event.Responded id m ∷ []))
+            subst (λ (u : Connection). AreAnswers u.history (given_on id (es ++ event.Responded id m ∷ []))
             (responses_to (requests_on c id (es ++ event.Responded id m ∷ []))))
             (same_there settled_so t (sym there_then ∙ now))
-            (rw responses_are (answers_by (has_stopped settled_so.history.phase) over_then));
+            (rw responses_are (answers_by settled_so.history over_then));
       }
 
     event_all : (e : AcceptedCall) → IsAccepted c es e → AreAll (es ++ e ∷ [])
@@ -395,7 +429,7 @@ module _ (c : ConfigValues) (id : ℕ) where
 -- After accepted events, the responses of the application are answers.
 pub given_are_answers : (c : ConfigValues) (es : List AcceptedCall) (id : ℕ) (s : Connection) → AreAccepted c es
     → side_of id (world_after c es).sides ≡ Some s
-    → AreAnswers (has_stopped s.history.phase) (given_on id es) (responses_to (requests_on c id es))
+    → AreAnswers s.history (given_on id es) (responses_to (requests_on c id es))
 given_are_answers c es id s accepted there =
     (by_events c (AreAll c id) (first_all c id)
     (λ fs e before last is. event_all c id fs (accepted_is c fs before) is e last) es accepted).answers_all s there

@@ -40,7 +40,7 @@ use Rattle.coap_model.proofs.world.WalkLaws.{faulted_between, holding, kept_open
 use Rattle.coap_model.proofs.world.WalkLaws.{received, released_between, said_request, sent, there_or_not}
 use Rattle.coap_model.proofs.world.WalkLaws.{without_first, written_between}
 use Rattle.coap_model.proofs.world.QueuedMessages.{Queues, open_answers, reply_either, reply_queues, sent_all}
-use Rattle.coap_model.proofs.world.QueuedMessages.{sent_either}
+use Rattle.coap_model.proofs.world.QueuedMessages.{NoneAsk, sent_either}
 use Rattle.coap_model.proofs.world.LastNotificationLaws.{HaveOtherTokens, filter_others}
 use Rattle.coap_model.proofs.world.RespondedLaws.{allowed, answered_request, plain_codes}
 use Rattle.coap_model.proofs.world.EntryLemmas.{all_append, all_become, all_entered, all_filter, all_to, found_all}
@@ -48,7 +48,7 @@ use Rattle.coap_model.proofs.world.SideLaws.{handles_parts, next_due_found, pend
 use Rattle.coap_model.proofs.OptionLemmas.{same_there}
 use Rattle.coap_model.proofs.world.FateLists.{Extends, IsNew, all_parts, filter_none, filter_whole, waits}
 use Rattle.coap_model.proofs.world.FateLists.{without_found, without_passing}
-use Rattle.coap_model.proofs.world.FateLaws.{Accounted, AddsRequest, Calm, IsKept, IsNext, IsSent, NoEngine, NoneAsk}
+use Rattle.coap_model.proofs.world.FateLaws.{Accounted, AddsRequest, Calm, IsKept, IsNext, IsSent, NoEngine}
 use Rattle.coap_model.proofs.world.FateLaws.{NoneRespond, Passes, Spares, StillPending, adds_keep, answer_keeps}
 use Rattle.coap_model.proofs.world.FateLaws.{calm_so, is_engine_for, none_respond, passes_keep, pending_gone}
 use Rattle.coap_model.proofs.world.FateLaws.{pending_over, pending_same, request_with, sent_so}

@@ -22,6 +22,7 @@ use Rattle.coap_conn.specs.Calls as call
 use Rattle.coap_conn.specs.declared.phase.Phase.TheVariants as phase
 use Rattle.coap_model.proofs.world.WalkLaws.{kept_open_has}
 use Rattle.coap_model.proofs.world.LastNotificationLaws.{HaveOtherTokens}
+use Rattle.coap_model.proofs.world.QueuedMessages.{NoneAsk}
 use Rattle.coap_model.proofs.world.EntryLemmas.{all_append, all_to}
 use Rattle.coap_model.proofs.world.FateLists.{Extends, IsNew, all_both, all_less, all_parts, any_filter, any_waiting}
 use Rattle.coap_model.proofs.world.FateLists.{fate_all, fate_requests, filter_none, filter_whole, filter_without}
@@ -71,9 +72,6 @@ NoEngine token es = AllByRecursion (λ e. is_engine_for token e ≡ false) es
 
 abbrev pub NoneRespond : List ℕ → List Message → Type 0
 NoneRespond token ms = AllByRecursion (λ m. responds token m ≡ false) ms
-
-abbrev pub NoneAsk : List ℕ → List Message → Type 0
-NoneAsk token ms = AllByRecursion (λ m. asks_with token m ≡ false) ms
 
 -- No observer has the token, and the engine delays no response with it.
 pub record Calm (token : List ℕ) (s : Connection) : Type 0 where

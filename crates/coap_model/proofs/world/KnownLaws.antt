@@ -1,16 +1,19 @@
 -- Known facts of an observer: the state that it was sent last is a state that its path had.
-use Rattle.std.proofs.Common.{List, None, Option, Some, ap, arith, false, inl, inr, refl, rules, sym, true, ℕ, ◌+◌, ◌<◌}
-use Rattle.std.proofs.Common.{◌∙◌, ◌≡◌, ◌≤◌, ◌⊎◌}
+use Rattle.std.proofs.Common.{List, None, Option, Some, ap, arith, false, inl, inr, refl, rules, sym, true, ℕ}
+use Rattle.std.proofs.Common.{◌+◌, ◌<◌, ◌∙◌, ◌≡◌, ◌≤◌, ◌⊎◌}
 use Rattle.std.proofs.lemmas.Bool.{and_parts, cond_both, eq-eqb, eqb-true}
 use lib.Pointwise.{bytes_decides}
 use Rattle.coap_model.specs.Prelude.{AreDistinct, Change, Delete, Dynamic, Message, Nothing, Observer, Path, Put}
 use Rattle.coap_model.specs.Prelude.{ReportsState, Representation, RequestTarget, Response, StoreValue, Time, answer_at}
 use Rattle.coap_model.specs.Prelude.{answer_of, built, changed, content, decimal, entry_for, etag_at, etag_of_state}
 use Rattle.coap_model.specs.Prelude.{format_of, found_in, goes_on, immediate_answer, is_among, is_due, is_dynamic}
-use Rattle.coap_model.specs.Prelude.{is_observable, key_for, kind_of_path, notification, notification_at}
-use Rattle.coap_model.specs.Prelude.{notification_message, path_of, prompt_answer, responds, response_with_observe}
-use Rattle.coap_model.specs.Prelude.{same_bytes, same_state, state_at, state_of, text_plain, valid}
+use Rattle.coap_model.specs.Prelude.{is_observable, key_for, kind_of_path, last_request, NamesEtag, notification}
+use Rattle.coap_model.specs.Prelude.{notification_at, notification_message, path_of, prompt_answer, responds}
+use Rattle.coap_model.specs.Prelude.{response_with_observe, same_bytes, same_state, state_at, state_of, text_plain}
+use Rattle.coap_model.specs.Prelude.{valid}
 use Rattle.coap_store.specs.Answer.{Answer}
+use Rattle.coap_store.specs.Requests.{etag_of, values_of}
+use Rattle.coap_wire.specs.OptionNumbers as numbers
 use Rattle.coap_path.specs.declared.resource_kind.ResourceKind.{ResourceKind}
 use Rattle.coap_store.proofs.CatalogueLemmas.{same_format}
 use Rattle.coap_store.proofs.ChangeLaws.{deleted_is_gone, distinct_stays, other_is_kept_on_delete, other_is_kept_on_put}
@@ -193,41 +196,48 @@ left_watchable store now o known e =
 
 -- ---- responses that report a state
 
--- The 2.05 of a state, or the 2.03 of a stored one.
-abbrev pub SaysState : ResourceKind → Representation → Response → Type 0
-SaysState place r a = (a ≡ content place r) ⊎ ((a ≡ etag_of_state r) × (is_dynamic place ≡ true))
+-- The 2.05 of a state; or the 2.03 of a stored one, if its ETag was named.
+abbrev pub SaysState : Type 0 → ResourceKind → Representation → Response → Type 0
+SaysState Named place r a = (a ≡ content place r) ⊎ ((a ≡ etag_of_state r) × (is_dynamic place ≡ true) × Named)
 
 -- Such a response with Observe reports the state.
-pub says_reports : (o : Observer) (state : Option Representation) (r : Representation) (a : Response) → state ≡ Some r
-    → SaysState (kind_of_path o.path) r a → ReportsState o state (response_with_observe o.token true a)
-says_reports o state r a there (inl e) = rw there (inl (ap (response_with_observe o.token true) e))
-says_reports o state r a there (inr e) = rw there (inr (ap (response_with_observe o.token true) e.0, e.1))
+pub says_reports : (handled : List Message) (o : Observer) (state : Option Representation) (r : Representation)
+    (a : Response) → state ≡ Some r → SaysState (NamesEtag handled o r) (kind_of_path o.path) r a
+    → ReportsState handled o state (response_with_observe o.token true a)
+says_reports handled o state r a there (inl e) = rw there (inl (ap (response_with_observe o.token true) e))
+says_reports handled o state r a there (inr e) =
+    rw there (inr (ap (response_with_observe o.token true) e.0, e.1, e.2))
 
 -- A message that reports a state is a response with the observer's token.
-pub reports_responds : (o : Observer) (state : Option Representation) (m : Message) → ReportsState o state m
-    → responds o.token m ≡ true
-reports_responds o None m reports = absurd reports
-reports_responds o (Some r) m (inl e) = ap (responds o.token) e ∙ bytes_itself o.token
-reports_responds o (Some r) m (inr e) = ap (responds o.token) e.0 ∙ bytes_itself o.token
+pub reports_responds : (handled : List Message) (o : Observer) (state : Option Representation) (m : Message)
+    → ReportsState handled o state m → responds o.token m ≡ true
+reports_responds handled o None m reports = absurd reports
+reports_responds handled o (Some r) m (inl e) = ap (responds o.token) e ∙ bytes_itself o.token
+reports_responds handled o (Some r) m (inr e) = ap (responds o.token) e.0 ∙ bytes_itself o.token
 
 -- ---- answers
 
+-- An ETag option of the request is the ETag of a state.
+abbrev Names : Message → Representation → Type 0
+Names m r = is_among (Some (etag_of r)) (values_of numbers.etag m) ≡ true
+
 -- An answer that adds an observer reports the state of the path.
-abbrev ReportsWell : ResourceKind → Option Representation → Answer → Type 0
-ReportsWell place state a = a.watch ≡ watch.Add → (r : Representation) × (state ≡ Some r) × SaysState place r a.response
+abbrev ReportsWell : ResourceKind → Option Representation → Message → Answer → Type 0
+ReportsWell place state m a =
+    a.watch ≡ watch.Add → (r : Representation) × (state ≡ Some r) × SaysState (Names m r) place r a.response
 
 -- An ETag matches only if the state is stored.
-valid_says : (place : ResourceKind) (r : Representation) (etags : List (List ℕ))
-    → is_among (etag_at place r) etags ≡ true → SaysState place r (valid place r)
-valid_says Dynamic r etags e = inr (refl, refl)
-valid_says other r etags e = absurd cc
+valid_says : (place : ResourceKind) (r : Representation) (m : Message)
+    → is_among (etag_at place r) (values_of numbers.etag m) ≡ true → SaysState (Names m r) place r (valid place r)
+valid_says Dynamic r m e = inr (refl, refl, e)
+valid_says other r m e = absurd cc
 
-telling_at : (s : StoreValue) (t : RequestTarget) (m : Message) → ReportsWell t.place t.state (answer_at s t m)
+telling_at : (s : StoreValue) (t : RequestTarget) (m : Message) → ReportsWell t.place t.state m (answer_at s t m)
 telling_at s t m =
-    let P : Answer → Type 0 = ReportsWell t.place t.state in
+    let P : Answer → Type 0 = ReportsWell t.place t.state m in
     answer_cases P s t m (λ c error e. absurd cc) (record {
       read = λ r is. get_cases P t.place r m (λ c error e. absurd cc) (record {
-        valid = λ among e. (r, is, valid_says t.place r _ among);
+        valid = λ among e. (r, is, valid_says t.place r m among);
         late = λ e. absurd cc;
         content = λ e. (r, is, inl refl);
       });
@@ -236,29 +246,43 @@ telling_at s t m =
           (λ can e. absurd (cc (stored_unwatched t.key t.state m)));
     })
 
--- The answer that adds an observer is not delayed, and reports the state that the entry records.
-immediately_reports : (store : StoreValue) (now : ℕ) (m : Message) → (immediate_answer store now m).watch ≡ watch.Add
-    → ReportsState (entry_for store now m) (state_of store now (path_of m))
-    (response_with_observe m.token true (immediate_answer store now m).response)
+-- The answer that adds an observer is not delayed.
+immediately_reports : (store : StoreValue) (now : ℕ) (m : Message)
+    → ReportsWell (kind_of_path (path_of m)) (state_of store now (path_of m)) m (immediate_answer store now m)
 unfolding answer_of immediate_answer
-immediately_reports store now m e = search (rules, there_or_not, telling_at, watched_at_once, says_reports)
+immediately_reports store now m e = search (rules, there_or_not, telling_at, watched_at_once)
 
 -- A request that the application answers adds none.
-pub entry_reports : (store : StoreValue) (now : ℕ) (m : Message) → (prompt_answer store now m).watch ≡ watch.Add
-    → ReportsState (entry_for store now m) (state_of store now (path_of m))
-    (response_with_observe m.token true (prompt_answer store now m).response)
-entry_reports store now m =
-    prompt_cases store now m (λ a. a.watch ≡ watch.Add → ReportsState (entry_for store now m)
-    (state_of store now (path_of m)) (response_with_observe m.token true a.response))
+prompt_reports : (store : StoreValue) (now : ℕ) (m : Message)
+    → ReportsWell (kind_of_path (path_of m)) (state_of store now (path_of m)) m (prompt_answer store now m)
+prompt_reports store now m =
+    prompt_cases store now m (ReportsWell (kind_of_path (path_of m)) (state_of store now (path_of m)) m)
     (λ e. absurd cc) (immediately_reports store now m)
+
+named_so : (A B : Type 0) (place : ResourceKind) (r : Representation) (a : Response) → (A → B) → SaysState A place r a
+    → SaysState B place r a
+named_so A B place r a to (inl e) = inl e
+named_so A B place r a to (inr e) = inr (e.0, e.1, to e.2)
+
+-- Its response reports the state that the entry records, if the request is the last one with its token.
+pub entry_reports : (store : StoreValue) (now : ℕ) (handled : List Message) (m : Message)
+    → last_request m.token handled ≡ Some m → (prompt_answer store now m).watch ≡ watch.Add
+    → ReportsState handled (entry_for store now m) (state_of store now (path_of m))
+    (response_with_observe m.token true (prompt_answer store now m).response)
+entry_reports store now handled m last e =
+    let is = prompt_reports store now m e in
+    let a = (prompt_answer store now m).response in
+    says_reports handled (entry_for store now m) (state_of store now (path_of m)) is.0 a is.1
+    (named_so (Names m is.0) (NamesEtag handled (entry_for store now m) is.0) (kind_of_path (path_of m)) is.0 a
+    (λ names. (m, last, names)) is.2)
 
 -- ---- notifications
 
 -- A notification with Observe reports the state that the entry records from then on.
-pub notification_reports_observer : (store : StoreValue) (now : ℕ) (o : Observer)
+pub notification_reports_observer : (handled : List Message) (store : StoreValue) (now : ℕ) (o : Observer)
     → goes_on (notification store now o) ≡ true
-    → ReportsState o (state_of store now o.path) (notification_message o.token (notification store now o))
-notification_reports_observer store now o on =
+    → ReportsState handled o (state_of store now o.path) (notification_message o.token (notification store now o))
+notification_reports_observer handled store now o on =
     let is = reports_on_to_observer store now o on in
-    rw on (says_reports o (state_of store now o.path) is.representation (notification store now o) is.there
+    rw on (says_reports handled o (state_of store now o.path) is.representation (notification store now o) is.there
     (inl is.says))

@@ -1,7 +1,7 @@
 -- After any events, the last response with an observer's token reports the state that its entry records. This holds if
 -- no request for a delayed response had that token.
 use Rattle.std.proofs.Common.{◌≡◌, ◌≢◌, ℕ, Bool, true, false, List, [], ◌∷◌, ◌++◌, Option, Some, None, refl, sym, subst}
-use Rattle.std.proofs.Common.{filter, find, not, ◌&&◌, if◌then◌else◌, arith}
+use Rattle.std.proofs.Common.{filter, find, not, ◌&&◌, if◌then◌else◌, arith, ◌∙◌, inl, inr}
 use Rattle.coap_model.specs.Prelude.{list_any, Responder, Engine, Application, asks_pending, ApplicationsValue}
 use Rattle.coap_model.specs.Prelude.{AllByRecursion, Message, LimitValues, is_open, fit, bare_response}
 use Rattle.coap_model.specs.Prelude.{PendingEntryValue, Answer, Pong, first_due, History, limit_now, after, same_bytes}
@@ -12,20 +12,22 @@ use Rattle.coap_model.specs.Prelude.{with_history, side_answered, side_handled, 
 use Rattle.coap_model.specs.Prelude.{late_message, after_sent, side_of, AcceptedCall, world_after, responds}
 use Rattle.coap_model.specs.Prelude.{is_response, ReportsState, requested_late, IsLastNotification, TokensAreDistinct}
 use Rattle.coap_model.specs.Prelude.{CorrespondTo, side_responded, response_refusal, link_of, with_effect, send}
-use Rattle.coap_model.specs.Prelude.{state_without, state_now, answers}
-use Rattle.std.proofs.lemmas.Bool.{cond_both, and_parts, and_left}
+use Rattle.coap_model.specs.Prelude.{state_without, state_now, answers, handles, Representation, takes_messages, Server}
+use Rattle.coap_model.specs.Prelude.{asks_answer, asks_with, is_asking, last_request}
+use Rattle.std.proofs.lemmas.Bool.{cases_Bool, cond_both, and_parts, and_left}
 use Rattle.std.proofs.lemmas.List.Folds.{list_any-append}
 use lib.Pointwise.{bytes_decides}
 use Rattle.coap_conn.specs.Calls as call
 use Rattle.coap_conn.proofs.PendingLaws.{due_answer}
-use Rattle.coap_store.specs.Answer as answer
 use Rattle.coap_model.proofs.world.EntryLemmas.{asks_to_enter, all_to, all_append, all_filter, all_become, found_all}
-use Rattle.coap_model.proofs.world.SideLaws.{settled_cases, pending_room, next_due_found}
-use Rattle.coap_model.proofs.world.WalkLaws.{holding, PlainCall, Fault, Write, End, Release, Announcement}
+use Rattle.coap_model.proofs.world.SideLaws.{settled_cases, pending_room, next_due_found, handles_parts}
+use Rattle.coap_model.proofs.world.WalkLaws.{PlainCall, Fault, Write, End, Release, Announcement}
 use Rattle.coap_model.proofs.world.WalkLaws.{observers_plain}
 use Rattle.coap_model.proofs.world.GoingOn.{kept_after, IsSide, Keeps}
 use Rattle.coap_model.proofs.world.QueuedMessages.{last_stays, message_queues, due_queues, reply_queues, whole_last}
 use Rattle.coap_model.proofs.world.QueuedMessages.{Queues, queues_these, sent_all, last_of_longer, plain_queues}
+use Rattle.coap_model.proofs.world.QueuedMessages.{QueuesOn, NoneAsk, request_stays, request_of_longer}
+use Rattle.coap_model.proofs.world.AnsweredRequests.{answered_is_request, requested_or_over}
 use Rattle.coap_conn.proofs.ReactionLaws.{IsNoResponse, IsPlain}
 use Rattle.coap_model.proofs.world.CustodyLaws.{corresponds_plain, Corresponds, each_requested, corresponds_keeps}
 use Rattle.coap_model.proofs.world.CustodyLaws.{handled_cases}
@@ -54,13 +56,59 @@ pub filter_others : (token : List ℕ) (os : List Observer)
 filter_others token [] = tt
 filter_others token (o ∷ os) = grind (arith, bytes_decides o.token token, filter_others token os)
 
+-- ---- requests
+
+-- The observers with other tokens than that of a message, and all of them if the message is no request.
+pub others_unasked : (m : Message) (os : List Observer) → HaveOtherTokens m.token os
+    → AllByRecursion (λ o. asks_with o.token m ≡ false) os
+others_unasked m [] others = tt
+others_unasked m (o ∷ os) others = (grind (arith, bytes_decides m.token o.token), others_unasked m os others.1)
+
+pub all_unasked : (m : Message) (os : List Observer) → is_asking m ≡ false
+    → AllByRecursion (λ o. asks_with o.token m ≡ false) os
+all_unasked m [] other = tt
+all_unasked m (o ∷ os) other = (and_left (is_asking m) _ other, all_unasked m os other)
+
+module _ (s : Connection) (m : Message) where
+  -- A message that the caller answers is a request, and the last one with its token.
+  pub asked_last : takes_messages s.history.phase ≡ true → asks_answer s m ≡ true
+      → last_request m.token (after s.history (call.Handle m)).handled ≡ Some m
+  asked_last takes asks =
+      grind (
+        arith,
+        request_of_longer m.token s.history.handled m,
+        answered_is_request (state_now s.history) m,
+        bytes_decides m.token m.token,
+      )
+
+  -- Another message is no request, or stops the connection.
+  pub other_unasked : s.history.role ≡ Server → takes_messages s.history.phase ≡ true → asks_answer s m ≡ false
+      → is_open (after s.history (call.Handle m)).phase ≡ true → is_asking m ≡ false
+  other_unasked server takes other opened =
+      grind (arith, cases_Bool (is_asking m), requested_or_over (state_now s.history) m server takes)
+
 -- ---- messages
 
 -- A message that reports the recorded state is queued.
-reported_by_last : (o : Observer) (queued : List Message) (m : Message) → ReportsState o o.reported m
-    → IsLastNotification (queued ++ m ∷ []) o
-reported_by_last o queued m reports =
-    grind (arith, last_of_longer o.token queued m, reports_responds o o.reported m reports)
+reported_by_last : (handled : List Message) (o : Observer) (queued : List Message) (m : Message)
+    → ReportsState handled o o.reported m → IsLastNotification handled (queued ++ m ∷ []) o
+reported_by_last handled o queued m reports =
+    grind (arith, last_of_longer o.token queued m, reports_responds handled o o.reported m reports)
+
+-- More messages are handled, but no request with the token.
+reports_longer : (handled received : List Message) (o : Observer) (state : Option Representation) (m : Message)
+    → NoneAsk o.token received → ReportsState handled o state m → ReportsState (handled ++ received) o state m
+reports_longer handled received o None m none reports = reports
+reports_longer handled received o (Some r) m none (inl e) = inl e
+reports_longer handled received o (Some r) m none (inr e) =
+    inr (e.0, e.1, (e.2.0, request_stays o.token handled received none ∙ e.2.1, e.2.2))
+
+-- And more are queued, but no response with the token.
+last_longer : (o : Observer) (handled received queued more : List Message) → NoneAsk o.token received
+    → AllByRecursion (λ m. responds o.token m ≡ false) more → IsLastNotification handled queued o
+    → IsLastNotification (handled ++ received) (queued ++ more) o
+last_longer o handled received queued more asks none is =
+    (is.0, last_stays o.token queued more none ∙ is.1, reports_longer handled received o o.reported is.0 asks is.2)
 
 abbrev HasToken : List ℕ → Message → Type 0
 HasToken token m = m.token ≡ token
@@ -77,7 +125,7 @@ module _ (a : Option ApplicationsValue) where
 
   -- The last response reports the recorded state, if no request for a delayed response had the observer's token.
   abbrev pub ReportedOn : History → Observer → Type 0
-  ReportedOn h o = requested_late a o.token h.handled ≡ false → IsLastNotification h.queued o
+  ReportedOn h o = requested_late a o.token h.handled ≡ false → IsLastNotification h.handled h.queued o
 
   -- This holds of each observer, and no two have the same token.
   pub record AreReported (h : History) (os : List Observer) : Type 0 where
@@ -87,14 +135,15 @@ module _ (a : Option ApplicationsValue) where
   abbrev pub AllReported : Connection → Type 0
   AllReported s = AreReported s.history s.observers
 
-  -- From h to k, no response with the token of an observer is queued.
+  -- From h to k, no request with the token of an observer is handled, and no response with it is queued.
   abbrev LeavesOf : History → History → Observer → Type 0
   LeavesOf h k o = ReportedOn h o → ReportedOn k o
 
-  leaves : (P : Message → Type 0) (h k : History) (o : Observer) → Queues P h k
+  leaves : (P : Message → Type 0) (received : List Message) (h k : History) (o : Observer) → QueuesOn P received h k
+      → NoneAsk o.token received
       → (requested_late a o.token h.handled ≡ false → (m : Message) → P m → responds o.token m ≡ false) → LeavesOf h k o
-  leaves P h k o queues other reported none =
-      grind (arith, list_any-append, last_stays o.token h.queued queues.more, all_to P)
+  leaves P received h k o queues asks other reported none =
+      grind (arith, list_any-append, last_longer o h.handled received h.queued queues.more asks, all_to P)
 
   all_left : (h k : History) (os : List Observer) → ((o : Observer) → LeavesOf h k o) → AreReported h os
       → AreReported k os
@@ -102,12 +151,22 @@ module _ (a : Option ApplicationsValue) where
 
   -- Messages that are no responses keep it.
   signalled : (h k : History) (os : List Observer) → Queues IsNoResponse h k → AreReported h os → AreReported k os
-  signalled h k os queues = grind (arith, all_left h k os, leaves IsNoResponse h k, and_left)
+  signalled h k os queues = grind (arith, all_left h k os, leaves IsNoResponse [] h k, and_left)
+
+  -- So does a message that is handled, if it is no request with the token of an observer.
+  heard_left : (h k : History) (m : Message) (os : List Observer) → QueuesOn IsNoResponse (m ∷ []) h k
+      → AllByRecursion (λ o. asks_with o.token m ≡ false) os → AllByRecursion (ReportedOn h) os
+      → AllByRecursion (ReportedOn k) os
+  heard_left h k m [] queues asks reported = tt
+  heard_left h k m (o ∷ os) queues asks reported = (
+    leaves IsNoResponse (m ∷ []) h k o queues (asks.0, tt) (λ none n is. and_left (is_response n) _ is) reported.0,
+    heard_left h k m os queues asks.1 reported.1,
+  )
 
   -- Responses with another token keep it, and those with the token of a request for a delayed response.
   other_left : (token : List ℕ) (h k : History) (o : Observer) → Queues (HasToken token) h k → token ≢ o.token
       → LeavesOf h k o
-  other_left token h k o queues apart = grind (arith, leaves (HasToken token) h k o queues, bytes_decides)
+  other_left token h k o queues apart = grind (arith, leaves (HasToken token) [] h k o queues, bytes_decides)
 
   others_left : (token : List ℕ) (h k : History) (os : List Observer) → Queues (HasToken token) h k
       → HaveOtherTokens token os → AllByRecursion (ReportedOn h) os → AllByRecursion (ReportedOn k) os
@@ -121,7 +180,7 @@ module _ (a : Option ApplicationsValue) where
   late_left by token moment h k os queues before after stand =
       let requested = late_requested a by token moment h.handled
       (each_requested a h.handled before (Answer by token moment) after stand) in
-      all_left h k os (λ o. leaves (HasToken token) h k o queues
+      all_left h k os (λ o. leaves (HasToken token) [] h k o queues tt
       (λ none m e. grind (arith, (bytes_decides m.token o.token).0)))
 
   -- ---- answers
@@ -133,15 +192,16 @@ module _ (a : Option ApplicationsValue) where
 
   -- The entry of a request is appended if the response reports its state.
   entered_reported : (h : History) (os : List Observer) (entry : Observer) (enters : Bool)
-      → HaveOtherTokens entry.token os → AreReported h os → (enters ≡ true → IsLastNotification h.queued entry)
+      → HaveOtherTokens entry.token os → AreReported h os
+      → (enters ≡ true → IsLastNotification h.handled h.queued entry)
       → AreReported h (with_entry enters os entry)
   entered_reported h os entry enters others are new = grind (arith, own_last, all_append)
 
-  -- The response to the request reports it.
+  -- The response to the last request reports it.
   reported_with_answer : (store : StoreValue) (now : ℕ) (h : History) (os : List Observer) (m : Message)
-      → HaveOtherTokens m.token os → AreReported h os
+      → last_request m.token h.handled ≡ Some m → HaveOtherTokens m.token os → AreReported h os
       → AllReported (side_answered store now h os m (prompt_answer store now m))
-  reported_with_answer store now h os m others are =
+  reported_with_answer store now h os m last others are =
       let r = prompt_answer store now m in
       let observes = has_place h.limits.observers os r.watch in
       let response = response_with_observe m.token observes r.response in
@@ -155,28 +215,46 @@ module _ (a : Option ApplicationsValue) where
       grind (
         arith,
         whole_last h response both.1 opened,
-        reported_by_last entry h.queued response,
-        entry_reports store now m asks,
+        reported_by_last h.handled entry h.queued response,
+        entry_reports store now h.handled m last asks,
       ))))
 
   -- ---- messages
 
-  handled_reported : (limits : LimitValues) (store : StoreValue) (now : ℕ) (s : Connection) (m : Message)
-      → IsSide limits s → AllReported s → AllReported (side_handled store now s m)
-  unfolding without_token
-  handled_reported limits store now s m is are =
-      grind (
-        arith,
-        signalled s.history,
-        message_queues s.history m is.is_server,
-        own_filter,
-        all_filter (ReportedOn s.history),
-        handled_cases store now s m AllReported,
-        kept_reported,
-        holding,
-        reported_with_answer store now,
-        filter_others m.token s.observers,
-      )
+  module _ (limits : LimitValues) (store : StoreValue) (now : ℕ) (s : Connection) (m : Message) (is : IsSide limits s)
+      (takes : takes_messages s.history.phase ≡ true) (are : AllReported s) where
+    abbrev k : History
+    k = after s.history (call.Handle m)
+
+    heard : QueuesOn IsNoResponse (m ∷ []) s.history k
+    heard = message_queues s.history m is.is_server takes
+
+    abbrev others : List Observer
+    others = without_token m.token s.observers
+
+    others_reported : AreReported k others
+    unfolding without_token
+    others_reported = record {
+      own = own_filter _ s.observers are.own;
+      reported = heard_left s.history k m others heard
+          (others_unasked m others (filter_others m.token s.observers)) (all_filter _ _ s.observers are.reported);
+    }
+
+    handled_reported : AllReported (side_handled store now s m)
+    unfolding without_token
+    handled_reported =
+        handled_cases store now s m AllReported
+        (λ other. kept_reported k s.observers (λ opened. record {
+          own = are.own;
+          reported = heard_left s.history k m s.observers heard
+              (all_unasked m s.observers (other_unasked s m is.is_server takes other opened)) are.reported;
+        }))
+        (λ asks by moment requested. kept_reported _ others (λ opened. record {
+          own = others_reported.own;
+          reported = others_reported.reported;
+        }))
+        (λ asks. reported_with_answer store now k others m (asked_last s m takes asks)
+        (filter_others m.token s.observers) others_reported)
 
   -- ---- notifications
 
@@ -230,7 +308,7 @@ module _ (a : Option ApplicationsValue) where
       grind (
         arith,
         whole_last h m is.1 opened,
-        reported_by_last left h.queued m (notification_reports_observer store now o is.0),
+        reported_by_last h.handled left h.queued m (notification_reports_observer h.handled store now o is.0),
       )
   left_reported store now h o false both opened = tt
 
@@ -295,7 +373,7 @@ module _ (a : Option ApplicationsValue) where
       let queues = plain_queues s t call in (
         corresponds_plain a s t call of.0,
         observers_plain (AreReported t.history) (record { own = tt; reported = tt }) s t call
-            (all_left s.history t.history s.observers (λ o. leaves IsPlain s.history t.history o queues
+            (all_left s.history t.history s.observers (λ o. leaves IsPlain [] s.history t.history o queues tt
             (λ none m is. and_left (is_response m) _ is.0)) of.1),
       )
 
@@ -305,7 +383,11 @@ module _ (a : Option ApplicationsValue) where
       let corresponds = corresponds_keeps limits a in
       record {
         first = grind arith;
-        handled = λ store now s m same is of. grind (arith, handled_reported limits store now s m is of.1);
+        handled = λ store now s m same is of. (
+          corresponds.handled store now s m same is of.0,
+          cond_both (handles s) _ s AllReported
+              (λ does. handled_reported limits store now s m is (handles_parts s does).0 of.1) (λ off. of.1),
+        );
         faulted = λ s fault. plain_reported s _ (Fault fault);
         written = λ s n. plain_reported s _ (Write n);
         ended = λ s cut. plain_reported s _ (End cut);

@@ -4,7 +4,7 @@ use Rattle.std.proofs.Common.{◌≡◌, ℕ, true, false, cond, List, [], ◌�
 use Rattle.coap_model.specs.Prelude.{AllByRecursion, Message, Phase, Reply, Server, answers, is_open, fit}
 use Rattle.coap_model.specs.Prelude.{bare_response, PendingEntryValue, ConnectionState, send_as, react, reject_reason}
 use Rattle.coap_model.specs.Prelude.{History, limit_now, state_now, after, is_whole, responds, last_response}
-use Rattle.coap_model.specs.Prelude.{Connection}
+use Rattle.coap_model.specs.Prelude.{Connection, asks_with, last_request, takes_messages}
 use Rattle.std.proofs.lemmas.List.{append-nil, append_assoc, reverse-append}
 use Rattle.coap_conn.specs.declared.phase.Phase.TheVariants as phase
 use Rattle.coap_conn.specs.declared.reason.Reason.TheVariants as reason
@@ -28,17 +28,42 @@ last_stays token queued [] none = grind (arith, append-nil)
 last_stays token queued (m ∷ ms) none =
     grind (arith, last_stays token (queued ++ m ∷ []) ms none.1, append_assoc, last_of_longer)
 
+-- ---- the last request
+
+-- One more request with the token is the last one.
+pub request_of_longer : (token : List ℕ) (handled : List Message) (m : Message) → asks_with token m ≡ true
+    → last_request token (handled ++ m ∷ []) ≡ Some m
+unfolding last_request
+request_of_longer token handled m asks = grind (arith, reverse-append)
+
+request_passes : (token : List ℕ) (handled : List Message) (m : Message) → asks_with token m ≡ false
+    → last_request token (handled ++ m ∷ []) ≡ last_request token handled
+unfolding last_request
+request_passes token handled m none = grind (arith, reverse-append)
+
+-- No message is a request with the token.
+abbrev pub NoneAsk : List ℕ → List Message → Type 0
+NoneAsk token ms = AllByRecursion (λ m. asks_with token m ≡ false) ms
+
+pub request_stays : (token : List ℕ) (handled ms : List Message) → NoneAsk token ms
+    → last_request token (handled ++ ms) ≡ last_request token handled
+request_stays token handled [] none = grind (arith, append-nil)
+request_stays token handled (m ∷ ms) none =
+    grind (arith, request_stays token (handled ++ m ∷ []) ms none.1, append_assoc, request_passes)
+
 -- ---- queued messages
 
 -- A history continues another one. All messages queued since have the property, and these messages were handled since.
-pub record Queues (P : Message → Type 0) (h k : History) : Type 0 where
+pub record QueuesOn (P : Message → Type 0) (received : List Message) (h k : History) : Type 0 where
   pub more : List Message
   pub same : k.queued ≡ h.queued ++ more
   pub such : AllByRecursion P more
-  pub received : List Message
   pub handled : k.handled ≡ h.handled ++ received
 
 -- No message is handled.
+abbrev pub Queues : (Message → Type 0) → History → History → Type 0
+Queues P h k = QueuesOn P [] h k
+
 pub queues_these : (P : Message → Type 0) (h k : History) (more : List Message) → k.queued ≡ h.queued ++ more
     → k.handled ≡ h.handled → AllByRecursion P more → Queues P h k
 queues_these P h k more same handled such = grind (arith, append-nil)
@@ -65,8 +90,9 @@ reply_either h m P is over = grind arith
 -- ---- effects on a history
 
 -- A message that is handled: a server's reaction queues no response.
-pub message_queues : (h : History) (m : Message) → h.role ≡ Server → Queues IsNoResponse h (after h (call.Handle m))
-message_queues h m server =
+pub message_queues : (h : History) (m : Message) → h.role ≡ Server → takes_messages h.phase ≡ true
+    → QueuesOn IsNoResponse (m ∷ []) h (after h (call.Handle m))
+message_queues h m server takes =
     let signals : AllByRecursion IsNoResponse (react (state_now h) m).effect.queued =
     react_so (state_now h) m (λ e. AllByRecursion IsNoResponse e.queued) (record {
       stays = tt;
@@ -75,7 +101,7 @@ message_queues h m server =
       queues = λ n is. (is server, tt);
       keeps = λ ping custody some. tt;
     }) in
-    grind (arith, queues_none)
+    grind arith
 
 pub reject_queues : Rejects (Queues IsPlain)
 reject_queues h r takes room = queues_these IsPlain h _ _ refl refl (abort_plain (limit_now h) (reject_reason r))

@@ -1,7 +1,8 @@
--- Worked examples of definitions that no program computes: views, sizes of bytes, the order of
--- pending entries, and the fates of requests for the application.
+-- Worked examples of definitions that no program computes: views, sizes, the order of pending entries, Pongs with
+-- Custody, and fates of requests.
 use Rattle.std.proofs.Common.{◌≡◌, ℕ, Bool, true, false, List, [], ◌∷◌, ◌++◌, map, Some, None, refl, sym, codes, inl}
-use Rattle.std.proofs.Common.{inr, true≢false}
+use Rattle.std.proofs.Common.{ap, arith, inr, length, true≢false}
+use Rattle.std.proofs.lemmas.List.{length-append}
 use Rattle.coap_model.specs.Prelude.{digits, kind_of, is_recognised, checked_given, recognised_in, first_critical_in}
 use Rattle.coap_model.specs.Prelude.{announced, due_index, first_due, without_due, react, live_reaction, is_path}
 use Rattle.coap_model.specs.Prelude.{found_in, put_at, removed_at, encoded_byte, path_bytes, entry_bytes, listing}
@@ -16,8 +17,9 @@ use Rattle.coap_model.specs.Prelude.{concerns, view_step, view_of, is_answered, 
 use Rattle.coap_model.specs.Prelude.{side_responded, with_fate, requests_after, requests_responded, requests_once}
 use Rattle.coap_model.specs.Prelude.{requests_within, requests_settled, requests_acted, requests_then, requests_by}
 use Rattle.coap_model.specs.Prelude.{requests_on, ConfigValues, Message, new_world, Answer, Pong, Engine, Application}
+use Rattle.coap_model.specs.Prelude.{FollowsAnswers, HaveDistinctAnswers, asks_pong, pong_with, responds}
 use Rattle.coap_model.specs.Prelude.{CorrespondTo, AcceptedCall, Opened, Took, Wrote, Ticked, Ended, Responded, Dropped}
-use Rattle.coap_model.specs.Prelude.{Announced, Stored, Fate, Unanswered, Answered, late_message, refusal_of}
+use Rattle.coap_model.specs.Prelude.{Announced, Fate, Unanswered, Answered, late_message, refusal_of}
 use Rattle.coap_store.specs.Requests.{values_of}
 use Rattle.coap_wire.specs.StreamPrefix.{prefix_kind}
 use Rattle.coap_wire.specs.Frames.{frames_within, sized_frames}
@@ -44,7 +46,7 @@ unfolding split sized_split sized_frames frames_within framing prefix_kind decla
     side_ended side_released side_announced settled_once settled_within settled side_of acted step after_steps taken_on
     size_on sizes_on steps_by later_steps steps_of world_after takes concerns view_step view_of with_fate
     requests_after requests_responded requests_once requests_within requests_settled requests_acted requests_then
-    requests_by requests_on response_refusal without_request is_answered side_responded CorrespondTo
+    requests_by requests_on response_refusal without_request is_answered side_responded CorrespondTo HaveDistinctAnswers
 computed = tt
 
 -- A server with at most one dynamic resource, whose application answers POST below `/rd`. `most` limits
@@ -139,6 +141,59 @@ not_twice : CorrespondTo None (late_get ∷ []) (Answer Engine (5 ∷ []) 3 ∷ 
 unfolding computed
 not_twice (inl (asks, rest)) = rest
 not_twice (inr rest) = rest
+
+-- ---- Pongs with Custody
+
+abbrev custody_pong : Message
+custody_pong = pong_with true (6 ∷ [])
+
+-- A GET between two Pings with one token. The second Pong follows the response to the GET.
+second_follows : FollowsAnswers (custody_ping ∷ late_get ∷ custody_ping ∷ []) custody_pong
+    (custody_pong ∷ late_message Engine (5 ∷ []) ∷ [])
+unfolding computed
+second_follows = record {
+  earlier = custody_ping ∷ late_get ∷ [];
+  ping = custody_ping;
+  later = [];
+  there = refl;
+  asks = refl;
+  own = inl (refl, tt);
+  answered = (
+    record {
+      before = custody_pong ∷ [];
+      response = late_message Engine (5 ∷ []);
+      rest = [];
+      there = refl;
+      responds_to = refl;
+    },
+    tt,
+  );
+}
+
+-- A Pong is no response to the GET.
+no_response : (before : List Message) (response : Message) (rest : List Message)
+    → custody_pong ∷ [] ≡ before ++ response ∷ rest → responds (5 ∷ []) response ≡ true → ⊥
+no_response [] response rest there responds_to =
+    let same : response ≡ custody_pong = cc in true≢false (sym (rw same at responds_to))
+no_response (b ∷ before) response rest there responds_to =
+    omega (arith, ap length there, length-append before (response ∷ rest))
+
+-- Without that response, the second Pong does not follow, since the first Ping belongs to the first Pong.
+second_waits : FollowsAnswers (custody_ping ∷ late_get ∷ custody_ping ∷ []) custody_pong (custody_pong ∷ []) → ⊥
+unfolding computed
+second_waits is = by is.earlier is.ping is.later is.there is.asks is.own is.answered
+  where
+    by : (earlier : List Message) (ping : Message) (later : List Message)
+        → custody_ping ∷ late_get ∷ custody_ping ∷ [] ≡ earlier ++ ping ∷ later → asks_pong ping (6 ∷ []) ≡ true
+        → CorrespondTo None earlier (Pong (6 ∷ []) ∷ []) → HaveDistinctAnswers earlier (custody_pong ∷ []) → ⊥
+    by [] ping later there asks own answered = own
+    by (a ∷ []) ping later there asks own answered =
+        let same : ping ≡ late_get = cc in true≢false (sym (rw same at asks))
+    by (a ∷ b ∷ earlier) ping later there asks own answered =
+        let first : a ≡ custody_ping = cc in
+        let second : b ≡ late_get = cc in
+        let place = (rw (first, second) at answered).0 in
+        no_response place.before place.response place.rest place.there place.responds_to
 
 -- ---- the fates of requests for the application
 

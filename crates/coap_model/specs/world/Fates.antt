@@ -10,6 +10,8 @@ use Rattle.coap_wire.specs.Codes as code
 use Rattle.coap_conn.specs.Limits.{LimitValues}
 use Rattle.coap_conn.specs.declared.phase.Phase.{Phase}
 use Rattle.coap_conn.specs.declared.phase.Phase.TheVariants.{Stopped}
+use Rattle.coap_conn.specs.declared.phase.Reply.TheVariants as reply
+use Rattle.coap_conn.specs.declared.reason.Reason.TheVariants.{PeerTooSmall}
 use Rattle.coap_conn.specs.declared.pending.Responder.{Responder}
 use Rattle.coap_conn.specs.declared.pending.Responder.TheVariants.{Engine, Application}
 use Rattle.coap_conn.specs.Fit.{fit, fitted, bare_response}
@@ -33,7 +35,7 @@ use Rattle.coap_model.specs.world.Connections.{late_message, moment_after, next_
 use Rattle.coap_model.specs.world.World.{World, Step, new_world, side_of, Opened, Handled, Responded, acted, step}
 use Rattle.coap_model.specs.world.Events.{AcceptedCall, AreAccepted, steps_of, world_after}
 use Rattle.coap_model.specs.world.Events as event
-use Rattle.coap_model.specs.world.LastNotification.{responds}
+use Rattle.coap_model.specs.world.LastNotification.{asks_with, responds}
 
 -- ---- requests and their fates
 
@@ -62,10 +64,6 @@ pub record ApplicationRequest : Type 0 where
 -- The message is a request that the application answers.
 abbrev pub is_for_application : Option ApplicationsValue → Message → Bool
 is_for_application a m = is_asking m && is_some (application_deadline a m)
-
--- The message is a request with this token.
-abbrev pub asks_with : List ℕ → Message → Bool
-asks_with token m = is_asking m && same_bytes m.token token
 
 -- The entry is a delayed response with this token.
 abbrev pub awaits : List ℕ → PendingEntryValue → Bool
@@ -269,16 +267,21 @@ abbrev pub AreQueuedInOrder : List (Message × ℕ) → Type 0
 AreQueuedInOrder [] = Unit {0}
 AreQueuedInOrder (m ∷ ms) = AllByRecursion (λ other. m.1 < other.1) ms × AreQueuedInOrder ms
 
+-- The response did not fit the limit of the connection, not even reduced, and so stopped it.
+abbrev pub IsUnfit : History → Message → Type 0
+IsUnfit h response =
+    (fit (limit_now h) response (bare_response response) ≡ reply.Stopped) × (h.phase ≡ Stopped PeerTooSmall)
+
 -- The responses that the application gave are its answers to requests, in the order in which they are queued. It gave
--- one more at most: the one that did not fit, and so stopped the connection.
-pub record AreAnswers (stopped : Bool) (given : List Message) (responses : List (Message × ℕ)) : Type 0 where
+-- one more at most: the one that did not fit, not even reduced, and so stopped the connection.
+pub record AreAnswers (h : History) (given : List Message) (responses : List (Message × ℕ)) : Type 0 where
   pub order : List (Message × ℕ)
   pub same : IsPermutation order responses
   pub in_order : AreQueuedInOrder order
   pub lost : List Message
   pub given_are : given ≡ map (λ m. m.0) order ++ lost
   pub few : length lost ≤ 1
-  pub none : stopped ≡ false → lost ≡ []
+  pub unfit : AllByRecursion (IsUnfit h) lost
 
 -- The size of the largest message that a connection with these limits may send after it handled these messages. It is
 -- the smaller of the local limit and the size that the peer announced last.
