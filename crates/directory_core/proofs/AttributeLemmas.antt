@@ -1,4 +1,5 @@
 -- The attributes of an endpoint.
+use Rattle.std.specs.Str.{is_utf8}
 use Rattle.std.proofs.Common.{arith, ◌⊎◌, inl, inr}
 use Rattle.std.proofs.Common.{◌≡◌, ℕ, ◌≤◌, Bool, true, false, not, List, [], ◌∷◌, ◌++◌, length}
 use Rattle.std.proofs.Common.{filter, codes, nat_eq, Option, Some, None, Ok, refl, sym}
@@ -72,7 +73,7 @@ parts_attribute : (p : Option (List ℕ × List ℕ)) (attributes : List Attribu
     → list_all is_attribute (with_first (parts_given p) attributes) ≡ true
 parts_attribute None attributes well allowed rest = rest
 parts_attribute (Some x) attributes well allowed rest =
-    grind (arith, allowed_named x.0 allowed, plain_quoted x.1 well, rest)
+    grind (arith, allowed_named x.0 allowed, plain_quoted x.1 (and_parts (is_utf8 x.1) _ well).1, rest)
 
 option_attribute : (o : CoapOption) (attributes : List Attribute) → is_well_formed o ≡ true → has_allowed_name o ≡ true
     → list_all is_attribute attributes ≡ true → list_all is_attribute (with_first (option_given o) attributes) ≡ true

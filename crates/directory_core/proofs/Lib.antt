@@ -4,3 +4,4 @@ pub mod EndpointLemmas
 pub mod LinkFormatLemmas
 pub mod ReachedLemmas
 pub mod LookupLemmas
+pub mod TextLemmas

@@ -1,4 +1,5 @@
 -- RFC 9176 section 5: the registrations after a request.
+use Rattle.std.specs.Str.{is_utf8}
 use Rattle.std.specs.Prelude.{ℕ, ◌+◌, Bool, ◌&&◌, ◌||◌, List, [], ◌∷◌, ◌++◌, length, nat_le, codes, Option, Some, None}
 use Rattle.std.specs.Prelude.{is_none, option_map, Result, Ok, Err, ◌==◌, if◌then◌else◌}
 use Rattle.std.specs.List.{list_all, fold}
@@ -75,7 +76,8 @@ registered_attributes os = attributes_in os >>= λ given. limited (given ++ endp
 
 -- The links of a payload.
 unfoldable pub links_in : List ℕ → Result (List Link) Refusal
-links_in payload = refused refusal.Links (links_from payload) >>= λ links.
+links_in payload = only_if (is_utf8 payload) refusal.Links payload >>= λ text.
+    refused refusal.Links (links_from text) >>= λ links.
     only_if (list_all is_limited links) refusal.Target links
 
 -- The key and the registration that a request describes, at the location with number 0.

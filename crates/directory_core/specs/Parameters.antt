@@ -1,22 +1,32 @@
 -- RFC 9176 section 5: the parameters of a registration.
 use Rattle.std.specs.Prelude.{ℕ, ◌+◌, Bool, true, false, not, ◌&&◌, ◌||◌, List, [], ◌∷◌, ◌++◌, length, take, drop}
-use Rattle.std.specs.Prelude.{nat_eq, nat_lt, nat_le, codes, position, filter, Option, Some, None, ◌==◌, if◌then◌else◌}
+use Rattle.std.specs.Prelude.{nat_eq, nat_lt, nat_le, chars, codes, position, filter, Option, Some, None, ◌==◌}
+use Rattle.std.specs.Prelude.{if◌then◌else◌}
 use Rattle.std.specs.Option.{option_map_or}
 use Rattle.std.specs.List.{list_all, list_any, starts_with}
 use Rattle.std.specs.Cmp.Lexicographic.{pointwise}
+use Rattle.std.specs.Str.{is_utf8}
 use Rattle.directory_links.specs.Characters.{is_same_name, is_target_char}
 use Rattle.directory_links.specs.Links.{QuotedValue, Attribute, Link, is_parmname}
 use Rattle.coap_wire.specs.Message.{CoapOption}
 use Rattle.directory_core.specs.Requests.{split_query}
 
+-- The character is none of 0 to 31 and of 127 to 159.
+abbrev pub is_name_char : ℕ → Bool
+is_name_char c = nat_le 32 c && (nat_lt c 127 || nat_le 160 c)
+
+-- The bytes are UTF-8, and each character can be in the name of an endpoint or a sector.
+abbrev pub is_name_text : List ℕ → Bool
+is_name_text bytes = is_utf8 bytes && list_all is_name_char (chars bytes)
+
 -- The key of an endpoint with this sector and name: a byte with the length of the sector, the sector, and the name.
--- `None` if a name has more than 63 bytes, or if that of the endpoint is empty.
+-- `None` if a name has more than 63 bytes or other characters, or if that of the endpoint is empty.
 abbrev pub key_in : List ℕ → List ℕ → Option (List ℕ)
 key_in sector name =
     if nat_lt 63 (length sector) then None
     else (if nat_lt 63 (length name) then None
     else (if length name == 0 then None
-    else Some (length sector ∷ sector ++ name)))
+    else (if is_name_text sector && is_name_text name then Some (length sector ∷ sector ++ name) else None)))
 
 -- RFC 3986 section 3.1: a character of a scheme.
 abbrev pub is_scheme_char : ℕ → Bool
@@ -53,10 +63,10 @@ is_limited l = has_scheme l.target
 abbrev pub is_plain_char : ℕ → Bool
 is_plain_char b = nat_le 32 b && (not (b == 127) && (not (b == 34) && not (b == 92)))
 
--- These parts of a query are there, and the value can be quoted.
+-- These parts of a query are there, and the value is UTF-8 that can be quoted.
 abbrev pub are_well_formed_parts : Option (List ℕ × List ℕ) → Bool
 are_well_formed_parts None = false
-are_well_formed_parts (Some x) = list_all is_plain_char x.1
+are_well_formed_parts (Some x) = is_utf8 x.1 && list_all is_plain_char x.1
 
 -- The option is no query, or a well-formed one.
 abbrev pub is_well_formed : CoapOption → Bool

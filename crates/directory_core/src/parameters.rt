@@ -1,14 +1,15 @@
 //! The registration that a request describes.
 
 ghost use Rattle.std.specs.Prelude.{◌≡◌, ◌+◌, ◌<◌, ◌^◌, ◌++◌, ◌==◌, ◌&&◌, ◌||◌, option_map, IfSome, length};
-ghost use Rattle.std.specs.Prelude.{position, codes, nat_lt, nat_le, nat_eq, not};
+ghost use Rattle.std.specs.Prelude.{position, chars, codes, nat_lt, nat_le, nat_eq, not};
 ghost use Rattle.std.specs.List.{list_all, list_any, starts_with};
 ghost use Rattle.std.specs.Cmp.Lexicographic.{pointwise};
+ghost use Rattle.std.specs.Str.{is_utf8 as is_utf8_text};
 ghost use Rattle.directory_core.specs.Prelude.{key_in, is_scheme as is_scheme_text, is_scheme_char, is_authority};
 ghost use Rattle.directory_core.specs.Prelude.{is_authority_char, is_base as is_base_text};
 ghost use Rattle.directory_core.specs.Prelude.{has_scheme as has_scheme_text, is_limited, is_plain_char};
 ghost use Rattle.directory_core.specs.Prelude.{is_well_formed, has_allowed_name, is_allowed_name, coap_option};
-ghost use Rattle.directory_core.specs.Prelude.{parameter_names, own_names};
+ghost use Rattle.directory_core.specs.Prelude.{parameter_names, own_names, is_name_char, is_name_text};
 ghost use Rattle.directory_links.specs.Characters.{is_same_name as is_same};
 
 use crate::query::split_query;
@@ -16,16 +17,53 @@ use coap_wire::option_numbers::URI_QUERY;
 use coap_wire::{MessageRef, OptionRef};
 use directory_links::{Links, is_parmname, is_same_name, is_target_char};
 use directory_registry::EndpointKey;
+use std::str;
 
 /// Maximum number of bytes of the name of an endpoint or a sector (RFC 9176 section 5).
 const MAX_NAME: usize = 63;
 
-/// Returns the key of an endpoint with this sector and name. Returns `None` if a name is too long, or if that of the
-/// endpoint is empty.
+/// Returns `true` if the bytes are UTF-8.
+#[tactic(auto, using(crate::proofs::TextLemmas::utf8))]
+pub(crate) fn is_utf8(text: &[u8]) -> bool
+    ensures { result ≡ is_utf8_text text.now }
+{
+    str::from_utf8(text).is_ok()
+}
+
+/// Returns `true` unless the character is a control character: one of 0 to 31 or 127 to 159.
+fn is_of_name(c: char) -> bool
+    ensures { result ≡ is_name_char c }
+{
+    let number = u32::from(c);
+    number >= 32 && (number < 127 || number >= 160)
+}
+
+fn all_of_name(text: &str) -> bool
+    ensures { result ≡ list_all is_name_char (chars text.now) }
+{
+    text.chars().all(|c| is_of_name(c))
+}
+
+/// Returns `true` if the text can be the name of an endpoint or a sector, apart from its length.
+#[tactic(auto, using(crate::proofs::TextLemmas::utf8))]
+fn is_name(text: &[u8]) -> bool
+    ensures { result ≡ is_name_text text.now }
+{
+    let Ok(name) = str::from_utf8(text) else {
+        return false;
+    };
+    all_of_name(name)
+}
+
+/// Returns the key of an endpoint with this sector and name. Returns `None` if a name is too long or has bytes that no
+/// name has, or if that of the endpoint is empty.
 pub(crate) fn endpoint_key(sector: &[u8], name: &[u8]) -> Option<EndpointKey>
     ensures { option_map (λ k. k.items) result ≡ key_in sector.now name.now }
 {
     if sector.len() > MAX_NAME || name.len() > MAX_NAME || name.is_empty() {
+        return None;
+    }
+    if !is_name(sector) || !is_name(name) {
         return None;
     }
     let mut key = EndpointKey::new();
@@ -135,7 +173,7 @@ fn all_plain(text: &[u8]) -> bool
     text.iter().all(|byte| is_plain(*byte))
 }
 
-/// Returns `true` unless the option is a query without `=`, or with a value that cannot be quoted.
+/// Returns `true` unless the option is a query without `=`, or with a value that is not UTF-8 or cannot be quoted.
 fn is_well_formed_query(option: &OptionRef) -> bool
     ensures { result ≡ is_well_formed (coap_option option.now) }
 {
@@ -145,7 +183,7 @@ fn is_well_formed_query(option: &OptionRef) -> bool
     let Some((_, value)) = split_query(option.value) else {
         return false;
     };
-    all_plain(value)
+    is_utf8(value) && all_plain(value)
 }
 
 /// Returns `true` if each query is well-formed.

@@ -16,7 +16,7 @@ pub enum Refusal {
     Format,
     /// A parameter of a registration is given twice (4.00).
     Repeated,
-    /// The endpoint has no name, or a name of more than 63 bytes (4.00).
+    /// The endpoint has no name, or a name of more than 63 bytes, with a control character, or that is no UTF-8 (4.00).
     Endpoint,
     /// The lifetime is no number from 1 to 4,294,967,295 (4.00).
     Lifetime,
@@ -82,7 +82,8 @@ impl Refusal {
             Refusal::Method => b"",
             Refusal::Format => b"Content-Format must be 40",
             Refusal::Repeated => b"ep, d, lt and base can be given once",
-            Refusal::Endpoint => b"ep must have 1 to 63 bytes, d at most 63",
+            Refusal::Endpoint =>
+                b"ep must have 1 to 63 bytes of UTF-8 without controls, d at most 63",
             Refusal::Lifetime => b"lt must be 1 to 4294967295",
             Refusal::Base => b"base is required, as in coap+tcp://host:5683",
             Refusal::Query => b"malformed query",

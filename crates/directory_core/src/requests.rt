@@ -13,7 +13,7 @@ ghost use Rattle.std.specs.List.{list_all};
 
 use crate::attributes::{AttributeList, given_attributes, merged_attributes, text_of, with_type};
 use crate::conditions::{accepts_link_format, has_link_format};
-use crate::parameters::{are_limited, endpoint_key, is_base};
+use crate::parameters::{are_limited, endpoint_key, is_base, is_utf8};
 use crate::query::{
     criteria_of_request, is_given_twice, lifetime_of, page_of_request, repeats_a_parameter,
     value_named,
@@ -86,6 +86,9 @@ fn identify<'a>(request: &MessageRef<'a>) -> Result<(EndpointKey, u32, &'a [u8])
 fn requested_links(alloc: Global, payload: &[u8]) -> Result<LinkText, RequestError>
     ensures { GivesUnlessMemory (λ x. x) result (links_in payload.now) }
 {
+    if !is_utf8(payload) {
+        return Err(RequestError::Refused(Refusal::Links));
+    }
     let bytes = Vec::from_slice(alloc, payload)?;
     let Ok(links) = LinkText::check(bytes) else {
         return Err(RequestError::Refused(Refusal::Links));
