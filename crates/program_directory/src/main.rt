@@ -79,8 +79,8 @@ fn config_of(alloc: Global, plan: &DirectoryPlan, now: u64) -> Option<ServiceCon
 }
 
 /// Listens at the address of a plan, writes one line that says so to standard error, and serves the connections that
-/// clients open. Returns an exit status only after an error. The file of a record is created before the server listens,
-/// and its header is written afterwards.
+/// clients open. Returns an exit status only after an error. The file of a record is created once the server listens,
+/// so that none is left if it cannot.
 fn run<'a>(
     rt: &'a (impl Print + Eprint + Files + Net + time::Clock + AllocGlobal),
     plan: &'a DirectoryPlan,
@@ -92,15 +92,15 @@ fn run<'a>(
     ) else {
         return PROGRAM.print_fault(rt, "no memory", FAULT);
     };
-    let record = match open_record(rt, &PROGRAM, plan.record.as_deref(), plan.record_limit) {
-        Ok(record) => record,
-        Err(status) => return status,
-    };
     let address = SocketAddr::new(plan.address, plan.port);
     let connections = config.config.connections();
     let mut door = match SocketDoor::listen(rt, rt.alloc(), address, connections) {
         Ok(door) => door,
         Err(fault) => return print_listen_fault(rt, &PROGRAM, fault, address),
+    };
+    let record = match open_record(rt, &PROGRAM, plan.record.as_deref(), plan.record_limit) {
+        Ok(record) => record,
+        Err(status) => return status,
     };
     let _ = eprintln!(rt;
         "coap-directory: listening on {}",

@@ -35,10 +35,10 @@ fn config_now<C: Clock>(clock: &mut C, plan: &ServerPlan) -> Option<Config>
 }
 
 /// Listens at an address, writes one line that says so to standard error, and serves the connections that clients open.
-/// Returns an exit status only after an error. The file of a record is created before the server listens, and its
-/// header is written afterwards.
+/// Returns an exit status only after an error. The file of a record is created once the server listens, so that none is
+/// left if it cannot.
 ///
-/// The errors are a limit out of its range, a record that cannot be created, and a system that cannot listen. A failed
+/// The errors are a limit out of its range, a system that cannot listen, and a record that cannot be created. A failed
 /// allocation and the limit of turns are errors too.
 pub(crate) fn run<'a>(
     rt: &'a (impl Print + Eprint + Files + Net + time::Clock + AllocGlobal),
@@ -49,13 +49,13 @@ pub(crate) fn run<'a>(
     let Some(config) = config_now(&mut clock, plan) else {
         return PROGRAM.print_fault(rt, "a limit is out of its range", USAGE);
     };
-    let record = match open_record(rt, &PROGRAM, plan.record.as_deref(), plan.record_limit) {
-        Ok(record) => record,
-        Err(status) => return status,
-    };
     let mut door = match SocketDoor::listen(rt, rt.alloc(), address, config.connections()) {
         Ok(door) => door,
         Err(fault) => return print_listen_fault(rt, &PROGRAM, fault, address),
+    };
+    let record = match open_record(rt, &PROGRAM, plan.record.as_deref(), plan.record_limit) {
+        Ok(record) => record,
+        Err(status) => return status,
     };
     let _ = eprintln!(rt;
         "coap-server: listening on {}",

@@ -252,7 +252,7 @@ impl<'a, R: time::Clock> ServerLog<'a, R> {
         match call {
             Call::Took { id, bytes, handled } => self.receive(id, bytes, handled),
             Call::Wrote(id, first, second) => {
-                let is_full = server.resource_count() >= self.dynamic_max;
+                let is_full = self.dynamic_max > 0 && server.resource_count() >= self.dynamic_max;
                 self.send(id, first, is_full);
                 self.send(id, second, is_full);
             }

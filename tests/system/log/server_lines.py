@@ -42,7 +42,10 @@ def check_lines(checks):
 
 
 def check_warnings(checks):
-    """A limit that refused something is a warning."""
+    """A limit that refused something is a warning. If clients create no resources, 4.06 comes of Accept alone."""
+    with logging("--log", "1") as (_, port, name):
+        ask(port, encoded(1, b"\x01", [(17, b"\x32")], b""), GET_ROOT)
+        checks.same("4.06 for another format", settled(name, 0), [])
     with logging("--log", "1", "-d", "1", "--connections", "2", "--pending", "0") as (_, port, name):
         put = [encoded(3, bytes([i]), [(11, b"a%d" % i)], b"x") for i in range(2)]
         ask(port, *put, GET_ROOT)

@@ -71,8 +71,8 @@ def cannot_open(name, why):
 
 
 def check_file(checks, server):
-    """Checks the file of a record: its permissions, and that an existing file stays as it is, before anything
-    listens."""
+    """Checks the file of a record: its permissions, that an existing file stays as it is, and that a server that cannot
+    listen creates none."""
     with tempfile.TemporaryDirectory() as folder:
         name, used = f"{folder}/record", f"{folder}/used"
         with Server(server, ["--record", name], umask=0) as running:
@@ -80,15 +80,14 @@ def check_file(checks, server):
             checks.same("permissions of the file", stat.S_IMODE(os.stat(name).st_mode), 0o600)
             with open(used, "wb") as it:
                 it.write(b"kept")
-            # The address is in use too. The file comes first.
-            listens = ["-A", LOCAL, "-p", str(running.port)]
             exists = cannot_open(used, f"{used} exists already; choose another name")
-            for words in (listens, ["--stdio"]):
+            for words in (["-A", LOCAL, "-p", str(free_port())], ["--stdio"]):
                 checks.same(f"an existing file, {words[0]}", refused(server, used, *words), exists)
             with open(used, "rb") as it:
                 checks.same("an existing file is unchanged", it.read(), b"kept")
-            checks.same("a server that cannot listen has an empty record",
-                        (refused(server, f"{folder}/new", *listens)[0], os.path.getsize(f"{folder}/new")), (3, 0))
+            in_use = ["-A", LOCAL, "-p", str(running.port)]
+            checks.same("a server that cannot listen creates no record",
+                        (refused(server, f"{folder}/new", *in_use)[0], os.path.lexists(f"{folder}/new")), (3, False))
         os.symlink(f"{folder}/nothing", f"{folder}/link")
         checks.same("a link to no file", refused(server, f"{folder}/link"),
                     cannot_open(f"{folder}/link", f"{folder}/link exists already; choose another name"))
