@@ -124,7 +124,7 @@ static void request(const struct end *end, int code, int at, int observes, const
 /* Reads what has arrived. Calls `handle` for each whole message: its token, and its last bytes. */
 static void receive(struct end *end, void (*handle)(int at, const char *state)) {
     ssize_t got = recv(end->socket, end->bytes + end->kept, BUFFER - end->kept, MSG_DONTWAIT);
-    if (got <= 0 && errno != EAGAIN)
+    if (got == 0 || (got < 0 && errno != EAGAIN))
         fail("the connection ended");
     end->kept += got > 0 ? (size_t)got : 0;
     size_t start = 0;

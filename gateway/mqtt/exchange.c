@@ -16,6 +16,8 @@ enum { AFTER_REFUSAL = 5000 };
 /* Returns the largest payload of a PUT: by the limit of the store, or that of the broker for packets. */
 static uint32_t room_of(const struct gateway *gateway, const struct request *request) {
     char topic[TOPIC_ROOM];
+    if (!request->has_path)
+        return REPRESENTATION_BYTES;
     topic_of_path(&request->path, topic);
     size_t room = broker_room(&gateway->broker, topic, request->format);
     return (uint32_t)(room < REPRESENTATION_BYTES ? room : REPRESENTATION_BYTES);
@@ -44,19 +46,22 @@ static bool has_place(const struct gateway *gateway, const struct path *path) {
     return (lane && lane->creates) || !mirror_is_full(&gateway->mirror, gateway->writes.creations);
 }
 
-/* Returns the code that refuses a request, or 0. Sets *is_stored to whether its resource exists. */
+/*
+ * Returns the code that refuses a request, or 0. Sets *is_stored to whether its resource exists. At a path that no
+ * resource can have, a DELETE has nothing to do, and succeeds (RFC 7252 section 5.8.4).
+ */
 static uint32_t refusal_of(const struct gateway *gateway, const struct request *request, bool *is_stored) {
     struct dachreup_state state = {{0}, 0, 0};
     bool is_delete = request->message.code == METHOD_DELETE;
     *is_stored = request->has_path && mirror_state(&gateway->mirror, &request->path, &state);
     if (!request_conditions_hold(request, *is_stored ? &state : NULL))
         return CODE_PRECONDITION_FAILED;
-    if (!request->has_path)
-        return CODE_BAD_REQUEST;
-    if (refusals_have(&gateway->refusals, &request->path, gateway->now))
-        return CODE_FORBIDDEN;
     if (!is_delete && request->message.payload.count > REPRESENTATION_BYTES)
         return CODE_TOO_LARGE;
+    if (!request->has_path)
+        return is_delete ? CODE_DELETED : CODE_BAD_REQUEST;
+    if (refusals_have(&gateway->refusals, &request->path, gateway->now))
+        return CODE_FORBIDDEN;
     if (*is_stored)
         return 0;
     if (refusals_are_many(&gateway->refusals, gateway->now))

@@ -24,6 +24,9 @@ enum { CSM_PATIENCE = 10000, RELEASE_PATIENCE = 4000 };
 /* Milliseconds in which a peer must acknowledge and read what it was sent. */
 enum { UNREAD_PATIENCE = 120000 };
 
+/* Milliseconds in which each write of a peer that has ended its input is answered: its deadline, and two ticks. */
+enum { ANSWER_PATIENCE = 12000 };
+
 /* An address of either family, as text. */
 struct address {
     struct sockaddr_storage bytes;
@@ -147,9 +150,21 @@ static void take_out(struct peers *peers, const struct peer *peer) {
 
 /* ---- one peer ---- */
 
+/*
+ * Closes a socket, after a mebibyte of its input was read at most. The system resets a connection that is closed with
+ * unread bytes, and the peer may then lose the last bytes written.
+ */
+static void close_socket(int socket) {
+    uint8_t bytes[16384];
+    shutdown(socket, SHUT_WR);
+    for (int reads = 0; reads < 64 && recv(socket, bytes, sizeof bytes, MSG_DONTWAIT) > 0; reads++) {
+    }
+    close(socket);
+}
+
 static void end(struct peers *peers, struct peer *peer) {
     dachreup_ignore(dachreup_server_drop(peers->server, peer->id));
-    close(peer->socket);
+    close_socket(peer->socket);
     free(peer->bytes);
     log_line(LOG_CONNECTIONS, "connection %llu ended", (unsigned long long)peer->id);
     take_out(peers, peer);
@@ -224,9 +239,17 @@ static void watch(struct peers *peers, struct peer *peer) {
     peer->interest = interest;
 }
 
-/* Records the end of the input, after all whole messages before it. */
+/*
+ * Records the end of the input, after all whole messages before it. The server then forgets its pending responses. So
+ * writes under way are answered first, by the server with 5.04 at the latest. A response of /async can take longer.
+ */
 static void finish(struct peers *peers, struct peer *peer) {
     if (!peer->has_ended || peer->is_finished || next_frame(peers, peer))
+        return;
+    if (!peer->ended)
+        peer->ended = peers->now;
+    struct dachreup_status status = status_of(peers, peer);
+    if (status.pending && (status.waiting || peers->now - peer->ended < ANSWER_PATIENCE))
         return;
     peer->is_finished = true;
     dachreup_ignore(dachreup_server_ended(peers->server, peer->id));
@@ -375,6 +398,8 @@ static void check_silence(struct peers *peers, struct peer *peer) {
 void peers_tick(struct peers *peers) {
     for (size_t at = 0; at < peers->count; at++) {
         struct peer *peer = &peers->all[at];
+        if (peer->socket >= 0 && peer->ended && !peer->is_finished)
+            serve(peers, peer);
         /* A connection can finish without output: if the peer accepts not even the smallest response. */
         if (peer->socket >= 0 && status_of(peers, peer).finished)
             end(peers, peer);

@@ -25,6 +25,7 @@ struct peer {
     uint64_t opened;   /* milliseconds when the connection was opened */
     uint64_t moved;    /* milliseconds when bytes last went in either direction */
     uint64_t released; /* milliseconds when the gateway released it, or 0 */
+    uint64_t ended;    /* milliseconds when the last message before the end of its input was processed, or 0 */
     bool has_ended;    /* the peer sends nothing more */
     bool is_finished;  /* the server knows that */
     bool is_raw;       /* its bytes are no messages any more, so the server ends the connection */
@@ -64,7 +65,7 @@ void peers_ready(struct peers *peers, size_t place, uint32_t events);
 /* Serves the peers that have new output. Returns true if there were some. */
 bool peers_serve(struct peers *peers);
 
-/* Accepts again after a failure, and ends finished and silent connections: `--idle`. Called once a second. */
+/* Accepts again after a failure. Ends connections that have finished, and silent ones: `--idle`. Called each second. */
 void peers_tick(struct peers *peers);
 
 /* Stops listening for good. */

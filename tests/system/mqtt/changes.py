@@ -94,7 +94,11 @@ def check_requests(checks, program):
         for name, path in (("dots", [PREFIX, ".."]), ("17 segments", [PREFIX] + 16 * ["a"]),
                            ("256 bytes", [PREFIX] + ["a" * 248])):
             checks.same(f"a path with {name}", [peer.code(it, path, payload=b"8") for it in (PUT, POST, DELETE)],
-                        3 * [BAD_REQUEST])
+                        [BAD_REQUEST, BAD_REQUEST, DELETED])
+            large = peer.ask(PUT, path, payload=bytes(65_001))
+            checks.same(f"a path with {name} and a large payload", (large.code, option_of(large, SIZE1)),
+                        (TOO_LARGE, uint(65_000)))
+            checks.same(f"If-Match and a path with {name}", peer.code(DELETE, path, [(IF_MATCH, b"")]), PRECONDITION)
         peer.code(PUT, at, [(FORMAT, b"\0\0\1"), (FORMAT, b"\1")], b"9")
         checks.same("the second Content-Format after one that is too long", peer.get(at), (CONTENT, b"9", None))
         for method in (PUT, POST, DELETE):

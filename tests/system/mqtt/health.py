@@ -8,13 +8,13 @@ from false_brokers import Relay
 from gateway_checks import FakeSetting
 from gateways import (
     CHANGED, CONTENT, DELETE, ETAG, GET, IF_MATCH, IF_NONE_MATCH, LIMIT, NOT_ACCEPTABLE, NOT_ALLOWED, NOT_FOUND,
-    OBSERVE, POST, PRECONDITION, PREFIX, PUT, UNAVAILABLE, Gateway, GatewayFront, Setting, soon,
+    OBSERVE, POST, PRECONDITION, PREFIX, PUT, UNAVAILABLE, URI_QUERY, Gateway, GatewayFront, Setting, soon,
 )
 from peers import LOCAL
 import proxies
 from signals import end_of
 
-URI_QUERY, ACCEPT = 15, 17
+ACCEPT = 17
 
 
 def raw(port, stream, count):

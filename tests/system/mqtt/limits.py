@@ -6,6 +6,7 @@ from gateways import (
     CHANGED, CREATED, DELETE, DELETED, DENIED, FORBIDDEN, GET, IF_MATCH, NOT_ACCEPTABLE, NOT_FOUND, POST, PREFIX,
     PUT, SOON, UNAVAILABLE, Setting, soon,
 )
+from peers import reset
 from scripted import codes, scripted, stopped, taken
 
 
@@ -78,15 +79,17 @@ def check_in_flight(checks, program):
                 other.send(PUT, f"{PREFIX}/0", [(IF_MATCH, b"")], b"never" + bytes(60_000))
                 taken(other)
                 checks.same("no room", peer.code(PUT, f"{PREFIX}/6", payload=bytes(60_000)), UNAVAILABLE)
+                # After a mere end of the input, the peer would get a response.
+                reset(other.socket)
             # A write that is accepted has no response while the broker is stopped.
             again = lambda: peer.code(PUT, f"{PREFIX}/6", payload=bytes(60_000), seconds=0.3)  # noqa: E731
-            checks.same("the room of a request that waited, after its peer has left", soon(again, None, 5), None)
+            checks.same("the room of a request that waited, after a reset by its peer", soon(again, None, 5), None)
         checks.same("the first one", peer.wait(first).code, CHANGED)
         checks.same("it was not published", peer.get(f"{PREFIX}/0")[1], bytes(60_000))
 
 
 def check_peers_gone(checks, program):
-    """Checks that a peer that leaves occupies no place of the next one."""
+    """Checks that a peer that resets its connection occupies no place of the next one."""
     with Setting(program, 1, words=["--pending", "1", "--connections", "1"]) as setting:
         gateway, broker = setting.gateways[0], setting.broker
         with gateway.peer() as peer:
@@ -97,8 +100,10 @@ def check_peers_gone(checks, program):
                 taken(peer)
                 waits = peer.send(PUT, f"{PREFIX}/a", [(IF_MATCH, b"")], b"never")
                 checks.same("a second request of one peer", peer.wait(waits).code, UNAVAILABLE)
+                reset(peer.socket)
             with gateway.peer() as peer:
                 token = peer.send(PUT, f"{PREFIX}/a", payload=b"3")
+                taken(peer)
                 checks.same("a write of the next peer is taken", peer.wait(token, SOON), None)
                 broker.process.send_signal(signal.SIGCONT)
                 checks.same("it is made", (peer.wait(token).code, peer.get(f"{PREFIX}/a")[1]), (CHANGED, b"3"))

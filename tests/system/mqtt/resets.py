@@ -1,17 +1,24 @@
-"""Checks resets of connections, and calls of the system that fail."""
+"""Checks resets and ends of connections, and calls of the system that fail."""
 
 import errno
 import fcntl
 import re
 import signal
+import socket
 import struct
 import termios
 import time
 
+from checks import ABORTS, CSM
 from commands import preloaded
 from gateway_checks import run
-from gateways import CONTENT, GET, PREFIX, PUT, Gateway, Setting, soon
-from peers import free_port, processor_time, reset
+from gateways import (
+    CHANGED, CONTENT, CREATED, GET, IF_MATCH, PREFIX, PUT, TIMEOUT, URI_PATH, URI_QUERY, Gateway, Setting, encode, soon,
+)
+import messages
+from peers import LOCAL, free_port, processor_time, read_to_end, reset
+from scripted import stopped, taken
+from signals import end_of
 
 
 def check_reset(checks, program):
@@ -46,6 +53,65 @@ def is_reset_in_time(checks, program):
 def unacknowledged(connection):
     """Returns the number of sent bytes that the other side has not acknowledged."""
     return struct.unpack("=i", fcntl.ioctl(connection, termios.TIOCOUTQ, bytes(4)))[0]
+
+
+def check_close(checks, program):
+    """Checks that a connection that the gateway stops receives all responses and the Abort, and ends without a reset
+    because of unread bytes."""
+    with Setting(program, 1) as setting, socket.socket() as peer:
+        gateway, (other,), large = setting.gateways[0], setting.peers(), bytes(range(250)) * 240
+        checks.same("a large resource", other.code(PUT, f"{PREFIX}/large", payload=large), CREATED)
+        # The responses wait in the system of the gateway.
+        peer.setsockopt(socket.SOL_SOCKET, socket.SO_RCVBUF, 4096)
+        peer.connect((LOCAL, gateway.port))
+        # The gateway is stopped, so that it finds all bytes at once, which are more than it reads at once.
+        gateway.process.send_signal(signal.SIGSTOP)
+        reads = encode(GET, b"g", [(URI_PATH, PREFIX.encode()), (URI_PATH, b"large")]) * 2
+        peer.sendall(bytes.fromhex(CSM) + reads + bytes.fromhex("f0ffffffff01") + bytes(100_000))
+        gateway.process.send_signal(signal.SIGCONT)
+        checks.same("the connection has ended", gateway.says(" ended"), True)
+        got, end = read_to_end(peer)
+        found = [messages.parse(it) for it in messages.split(got)[0]]
+        checks.same("whole responses", [it[3] == large for it in found if it[1] == b"g"], [True, True])
+        abort = bytes.fromhex(ABORTS["message too large"])
+        checks.same("the Abort, and the end", (got[-len(abort):], end), (abort, "the end"))
+
+
+def check_half_closed(checks, program):
+    """Checks that a peer that has ended its input gets the responses to its writes, and then the end."""
+    with Setting(program, 1) as setting:
+        gateway, (other,), at = setting.gateways[0], setting.peers(), f"{PREFIX}/a"
+        for name, code in (("a creation", CREATED), ("a change", CHANGED)):
+            with gateway.peer() as peer:
+                token = peer.send(PUT, at, payload=b"1")
+                peer.socket.shutdown(socket.SHUT_WR)
+                checks.same(name, peer.wait(token).code, code)
+                checks.same(f"the connection ends after {name}", end_of(peer) is not None, True)
+        with gateway.peer() as peer:
+            with stopped(setting.broker):
+                first = other.send(PUT, at, payload=b"2")
+                taken(other)
+                second = peer.send(PUT, at, [(IF_MATCH, b"")], b"3")
+                peer.socket.shutdown(socket.SHUT_WR)
+                taken(other)
+            checks.same("a request that waits for another one", [other.wait(first).code, peer.wait(second).code],
+                        [CHANGED, CHANGED])
+            checks.same("the connection ends after it", end_of(peer) is not None, True)
+        with gateway.peer() as peer, gateway.peer() as slow:
+            with stopped(setting.broker):
+                # A response after an hour does not count.
+                slow.send(GET, "async", [(URI_QUERY, b"3600")])
+                tokens = [it.send(PUT, at, payload=b"4") for it in (peer, slow)]
+                began, used = time.monotonic(), processor_time(gateway.process)
+                for it in (peer, slow):
+                    it.socket.shutdown(socket.SHUT_WR)
+                taken(other)
+                checks.same("writes without an echo", [it.wait(token).code for it, token in zip((peer, slow), tokens)],
+                            2 * [TIMEOUT])
+                checks.same("processor time meanwhile", processor_time(gateway.process) - used < 0.5, True)
+                checks.same("both connections end", [end_of(it) is not None for it in (peer, slow)], [True, True])
+                checks.same("within the deadline, and some seconds", time.monotonic() - began < 20, True)
+        checks.same("another write", soon(lambda: other.code(PUT, at, payload=b"5"), CHANGED), CHANGED)
 
 
 def check_failing_calls(checks, program):
