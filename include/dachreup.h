@@ -41,9 +41,9 @@
  * The library calls dachreup_malloc, dachreup_realloc and dachreup_free. If the program does not define them, they are
  * malloc, realloc and free. A program that defines one of them defines all three.
  *
- * All memory of a connection is allocated by open. With sizes of 1,152 bytes and one connection, without observers,
- * delayed responses and resources, the smallest server allocates 20,951 bytes, and the smallest client 2,608, on
- * x86-64.
+ * All memory of a connection is allocated by open, and by announce for a larger size. With sizes of 1,152 bytes and one
+ * connection, without observers, delayed responses and resources, the smallest server allocates 20,951 bytes, and the
+ * smallest client 2,608, on x86-64.
  */
 #ifndef DACHREUP_H
 #define DACHREUP_H
@@ -471,7 +471,8 @@ enum dachreup_reply { DACHREUP_REPLY_WHOLE = 0, DACHREUP_REPLY_BARE = 1, DACHREU
  * one encoded message with the token of the request. If it exceeds the size that the peer accepts, it is reduced to its
  * code and token (DACHREUP_REPLY_BARE); if that exceeds it too, the connection stops (DACHREUP_REPLY_STOPPED).
  * Returns DACHREUP_NO_SUCH, DACHREUP_NO_SUCH_REQUEST, DACHREUP_NOT_A_RESPONSE or DACHREUP_QUEUE_FULL. Directly after
- * the take of the request, the queue has room.
+ * the take of the request, the queue has room. Forget a request at its deadline: the client may use its token again,
+ * and a late response would answer the new request.
  */
 DACHREUP_MUST_USE static inline dachreup_result
 dachreup_server_respond(struct dachreup_server *server, uint64_t id, const void *response,

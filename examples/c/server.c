@@ -25,6 +25,23 @@ static void measure(const char *path, uint64_t value) {
     dachreup_ignore(dachreup_server_put(&server, path, strlen(path), 0, text, length, NULL));
 }
 
+/* Returns the code that refuses a request for its options, or 0. The library leaves these checks to
+   the program, which has no /valve/x and supports no conditions. Odd numbers are critical. */
+static uint32_t refusal_of(struct dachreup_span options) {
+    struct dachreup_span value;
+    size_t at = 0, segments = 0;
+    uint32_t number = 0;
+    while (!dachreup_option_next(options.at, options.count, &at, &number, &value)) {
+        int is_path = number == DACHREUP_NUMBER_URI_PATH;
+        if ((is_path && ++segments > 1) || number == DACHREUP_NUMBER_URI_QUERY)
+            return DACHREUP_CODE(4, 4);
+        if (number % 2 && !is_path && number != DACHREUP_NUMBER_URI_HOST &&
+            number != DACHREUP_NUMBER_URI_PORT)
+            return DACHREUP_CODE(4, 2);
+    }
+    return 0;
+}
+
 /* Answers PUT /valve, if it was taken. It is lent until the next call on the server, so copied. */
 static void answer(uint64_t id, struct dachreup_span request) {
     static uint8_t copy[LARGEST], response[67];
@@ -34,9 +51,11 @@ static void answer(uint64_t id, struct dachreup_span request) {
     if (dachreup_message_read(copy, request.count, &put))
         return;
     struct dachreup_span state = put.payload;
-    put = dachreup_message_of(DACHREUP_CODE(2, 4), put.token);
-    if (state.count > 4 || dachreup_server_put(&server, "valve", 5, 0, state.at, state.count, NULL))
-        put.code = DACHREUP_CODE(4, 13);
+    uint32_t code = refusal_of(put.options);
+    if (!code && (state.count > 4 ||
+                  dachreup_server_put(&server, "valve", 5, 0, state.at, state.count, NULL)))
+        code = DACHREUP_CODE(4, 13);
+    put = dachreup_message_of(code ? code : DACHREUP_CODE(2, 4), put.token);
     if (!dachreup_message_write(&put, response, sizeof response, &length))
         dachreup_ignore(dachreup_server_respond(&server, id, response, length, NULL));
 }
@@ -64,6 +83,15 @@ static int flush(uint64_t id, int to) {
     return count < 0 ? errno == EAGAIN : !dachreup_server_written(&server, id, (size_t)count);
 }
 
+/* Closes a socket. Unread input would reset the connection, and the client could lose responses. */
+static void hang_up(int from) {
+    uint8_t bytes[16384];
+    shutdown(from, SHUT_WR);
+    for (int reads = 0; reads < 64 && recv(from, bytes, sizeof bytes, MSG_DONTWAIT) > 0; reads++) {
+    }
+    close(from);
+}
+
 /* Moves bytes, and then waits for output that can move, or input unless the client released it. */
 static void serve(size_t at, int is_ready) {
     struct dachreup_status status;
@@ -73,7 +101,7 @@ static void serve(size_t at, int is_ready) {
         return;
     }
     dachreup_ignore(dachreup_server_drop(&server, ids[at]));
-    close(sockets[at].fd);
+    hang_up(sockets[at].fd);
     sockets[at] = sockets[--used];
     ids[at] = ids[used];
 }

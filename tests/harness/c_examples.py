@@ -41,6 +41,11 @@ def use_example(words, client):
             changed = run([client, "-m", "put", "-e", state, f"{address}/valve"])
             result = changed.returncode == 0, changed.stdout, changed.stderr[:4]
             yield f"valve {state[:9]}: {changed.stderr}", result, (not code, b"", code)
+        # The program checks the options: the whole path, Uri-Query, If-None-Match and Accept.
+        for path, more, code in (("valve/x", [], b"4.04"), ("valve?x", [], b"4.04"), ("valve", ["-O", "5,"], b"4.02"),
+                                 ("valve", ["-A", "0"], b"4.02")):
+            refused = run([client, "-m", "put", "-e", "open", *more, f"{address}/{path}"])
+            yield f"{path} {more}: {refused.stderr}", (refused.stdout, refused.stderr[:4]), (b"", code)
         yield "valve", run([client, f"{address}/valve"]).stdout.strip(), b"shut"
         changed = run([*LIBCOAP, "-m", "put", "-e", "open", f"{address}/valve"])
         yield "libcoap changes the valve", (changed.returncode, changed.stdout, changed.stderr), (0, b"", b"")

@@ -39,7 +39,7 @@ CALLED = {"malloc", "realloc", "free", "memcpy", "memmove", "memset"}
 VARIABLES = {"nothing"}
 
 # Most lines of the examples, and most columns.
-LINES, COLUMNS = {"client.c": 120, "pool.c": 60, "server.c": 120, "socketpair.c": 120}, 100
+LINES, COLUMNS = {"client.c": 120, "pool.c": 60, "server.c": 150, "socketpair.c": 120}, 100
 
 # Functions of the header, and whether they are inline.
 FUNCTION = re.compile(r"(static inline )?(?:dachreup_result|void|const char|struct dachreup_\w+)\s+\*?(dachreup_\w+)\(")
