@@ -36,6 +36,8 @@ fn first(segment: &[u8]) -> PathMatch
 
 impl PathMatch {
     /// Returns the state after another segment.
+    // Always inlined: each request with a path needs it.
+    #[inline(always)]
     pub fn with(self, segment: &[u8]) -> PathMatch
         ensures { result ≡ match_with self segment.now }
     {

@@ -39,10 +39,12 @@ pub keeps_none : (h : Option PolledServer) → KeepsReported h None
 unfolding KeepsReported
 keeps_none h id reported = absurd reported
 
--- The server has no connection.
-pub keeps_new : (h : Option PolledServer) (x : PolledServer) → x.engine.sessions ≡ [] → KeepsReported h (Some x)
+-- All connections are due.
+pub keeps_new : (h : Option PolledServer) (x : PolledServer) → ((i : ℕ) → i < 256 → bit_of x.due.words i ≡ 1)
+    → KeepsReported h (Some x)
 unfolding KeepsReported
-keeps_new h x none id reported = absurd (omega (arith, reported.lies.within, ap length none))
+keeps_new h x full id reported =
+    absurd (omega (arith, full reported.at reported.outside.within, reported.outside.bit))
 
 -- ---- a call on one connection
 

@@ -38,20 +38,15 @@ pub struct PolledServer {
 }
 
 impl PolledServer {
-    /// Returns a server of whose connections none is due.
-    ///
-    /// # Preconditions
-    ///
-    /// `engine` has no connections.
+    /// Returns a server all of whose connections are due.
     #[tactic(auto, using(crate::proofs::ReportLemmas::keeps_new))]
     pub fn new(engine: Server) -> PolledServer
-        requires { engine.sessions ≡ [] }
         ensures engine { result.engine ≡ engine }
         ensures output { (h : Option PolledServer) → KeepsReported h (Some result) }
     {
         PolledServer {
             engine,
-            due: IndexSet::empty(),
+            due: IndexSet::full(),
         }
     }
 

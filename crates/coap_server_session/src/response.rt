@@ -6,13 +6,14 @@ ghost use Rattle.coap_server_session.specs.Prelude.{IsReady, limit_in, link_afte
 ghost use Rattle.coap_server_session.specs.Prelude.{path_or_root, response_with_observe, option_at, empty_at};
 ghost use Rattle.coap_server_session.specs.Prelude.{number_at, each_at, LARGEST_MESSAGE, MAX_EXTENDED_LENGTH, only};
 ghost use Rattle.std.specs.Prelude.{false};
+ghost use Rattle.coap_wire.specs.Prelude.{bytes_of_uint};
 ghost use Rattle.coap_wire.specs.OptionNumbers as numbers;
 ghost use Rattle.coap_conn.specs.Calls as call;
 
 use coap_conn::{Link, Reply};
 use coap_store::{ChangePlan, Plan, UriPath};
 use coap_wire::option_numbers::{CONTENT_FORMAT, ETAG, LOCATION_PATH, MAX_AGE, OBSERVE, SIZE1};
-use coap_wire::{Code, CompactBuilder, SHORT_OPTIONS, TokenRef};
+use coap_wire::{Code, CompactBuilder, SHORT_OPTIONS, TokenRef, significant_bytes};
 
 /// Largest encoded size of the options of a response with Location-Path, in bytes.
 const LOCATION_OPTIONS: usize = 368;
@@ -28,70 +29,23 @@ const LOCATION_OPTIONS: usize = 368;
 /// - The peer's CSM was received, and the connection has not stopped.
 /// - The queue has room for a message of `max_sent` bytes.
 /// - The payload has at most 1,048,576 bytes.
+/// - The response has no Location-Path: `respond_change` sends the response to a request that created a resource.
 pub(crate) fn respond(link: &mut Link, token: &TokenRef, plan: &Plan, observes: bool) -> Reply
     requires ready { IsReady link.old }
     requires answering { IsAnswering link.old.phase }
     requires short { length plan.now.response.payload ≤ LARGEST_MESSAGE }
+    requires located { plan.now.response.location ≡ [] }
     ensures reply { let response = response_with_observe token.now observes plan.now.response in result
         ≡ fit (limit_in link.old) response (bare_response response) }
     ensures after { link.new
         ≡ link_after link.old (call.Reply (response_with_observe token.now observes plan.now.response)) }
 {
-    match plan.location() {
-        None => respond_from::<SHORT_OPTIONS>(link, token, plan, observes, None),
-        Some(path) => respond_at(link, token, plan, observes, path),
-    }
-}
-
-/// Sends a response with this Location-Path as `respond` does. (A separate function: a function clears all its locals,
-/// so these would slow down `respond`.)
-#[tactic(auto, using(coap_path::proofs::PathLemmas::few_segments, coap_path::proofs::PathLemmas::path_fits))]
-#[inline(never)]
-fn respond_at<'a>(
-    link: &mut Link,
-    token: &TokenRef,
-    plan: &'a Plan,
-    observes: bool,
-    path: UriPath<'a>,
-) -> Reply
-    requires ready { IsReady link.old }
-    requires answering { IsAnswering link.old.phase }
-    requires short { length plan.now.response.payload ≤ LARGEST_MESSAGE }
-    requires path { is_path path ≡ true }
-    requires reported { path_or_root (Some path) ≡ plan.now.response.location }
-    ensures reply { let response = response_with_observe token.now observes plan.now.response in result
-        ≡ fit (limit_in link.old) response (bare_response response) }
-    ensures after { link.new
-        ≡ link_after link.old (call.Reply (response_with_observe token.now observes plan.now.response)) }
-{
-    respond_from::<LOCATION_OPTIONS>(link, token, plan, observes, Some(path))
-}
-
-/// Sends a response as `respond` does, with at most `N` bytes of options. `path` is its Location-Path.
-#[inline(always)]
-fn respond_from<'a, const N: usize>(
-    link: &mut Link,
-    token: &TokenRef,
-    plan: &'a Plan,
-    observes: bool,
-    path: Option<UriPath<'a>>,
-) -> Reply
-    requires ready { IsReady link.old }
-    requires answering { IsAnswering link.old.phase }
-    requires short { length plan.now.response.payload ≤ LARGEST_MESSAGE }
-    requires path { IfSome path (λ path. is_path path ≡ true) }
-    requires reported { path_or_root path ≡ plan.now.response.location }
-    requires room { path_size plan.now.response.location + 45 ≤ N }
-    requires few { N ≤ MAX_EXTENDED_LENGTH }
-    ensures reply { let response = response_with_observe token.now observes plan.now.response in result
-        ≡ fit (limit_in link.old) response (bare_response response) }
-    ensures after { link.new
-        ≡ link_after link.old (call.Reply (response_with_observe token.now observes plan.now.response)) }
-{
-    let mut response: CompactBuilder<N> = CompactBuilder::new(plan.code(), token.copy());
-    add_etag(&mut response, plan.etag());
+    let mut response: CompactBuilder<SHORT_OPTIONS> = CompactBuilder::new(
+        plan.code(),
+        token.copy(),
+    );
+    add_etag(&mut response, plan.etag_number());
     add_observe(&mut response, observes);
-    add_location(&mut response, path);
     add_number(&mut response, CONTENT_FORMAT, wide(plan.format()));
     add_number(&mut response, MAX_AGE, plan.max_age());
     add_number(&mut response, SIZE1, plan.size1());
@@ -120,7 +74,8 @@ pub(crate) fn respond_change(link: &mut Link, token: &TokenRef, planned: &Change
     }
 }
 
-/// Sends a response with this code and Location-Path. (A separate function, as `respond_at`.)
+/// Sends a response with this code and Location-Path. (A separate function: a function clears all its locals, so these
+/// would slow down `respond_change`.)
 #[tactic(auto, using(coap_path::proofs::PathLemmas::few_segments, coap_path::proofs::PathLemmas::path_fits))]
 #[inline(never)]
 fn respond_created<'a>(link: &mut Link, token: &TokenRef, code: Code, path: UriPath<'a>)
@@ -175,23 +130,37 @@ fn add<const N: usize>(response: &mut CompactBuilder<N>, number: u16, value: &[u
     response.option(number, value);
 }
 
-/// Adds ETag as the first option, if there is one (RFC 7252 section 5.10.6).
+/// Adds the ETag with this number as the first option, if there is one (RFC 7252 section 5.10.6).
 #[inline(always)]
-fn add_etag<const N: usize>(response: &mut CompactBuilder<N>, etag: Option<&[u8]>)
+fn add_etag<const N: usize>(response: &mut CompactBuilder<N>, etag: Option<u64>)
     requires first { response.old.options ≡ [] }
     requires room { 13 ≤ N }
-    requires short { IfSome etag (λ etag. length etag.now ≤ 8) }
     ensures added { response.new
         ≡ record response.old {
-          options = response.old.options ++ option_at numbers.etag
-              (option_map (λ etag. etag.now) etag.entry);
+          options = response.old.options ++ option_at numbers.etag (option_map bytes_of_uint etag);
         } }
     ensures order { last_number 0 response.new.options ≤ 4 }
     ensures size { encoded_size response.new ≤ 13 }
 {
-    if let Some(etag) = etag {
-        add(response, ETAG, etag);
+    if let Some(number) = etag {
+        match u32::try_from(number) {
+            Ok(small) => add_number(response, ETAG, Some(small)),
+            Err(_) => add_long_etag(response, number),
+        }
     }
+}
+
+/// Adds the ETag with this number as the first option. (Most numbers have at most 4 bytes.)
+#[inline(never)]
+#[tactic(auto, unfolding(coap_wire::specs::Uint::bytes_of_uint))]
+fn add_long_etag<const N: usize>(response: &mut CompactBuilder<N>, number: u64)
+    requires first { response.old.options ≡ [] }
+    requires room { 13 ≤ N }
+    ensures added { response.new ≡ with_option response.old numbers.etag (bytes_of_uint number) }
+    ensures order { last_number 0 response.new.options ≡ 4 }
+    ensures size { encoded_size response.new ≤ 13 }
+{
+    add(response, ETAG, significant_bytes(&number.to_be_bytes()));
 }
 
 /// Adds an empty Observe, if `observes` is `true` (RFC 8323 section 7.1).

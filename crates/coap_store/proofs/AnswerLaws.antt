@@ -1,22 +1,21 @@
 -- Properties of all answers.
-use Rattle.std.proofs.Common.{◌≡◌, ℕ, ◌+◌, ◌<◌, ◌≤◌, ◌^◌, Bool, true, false, ◌&&◌, ◌||◌, [], length, Option}
-use Rattle.std.proofs.Common.{Some, None, refl, sym, ap, ◌∙◌, arith, rules, ⊎_elim}
+use Rattle.std.proofs.Common.{◌≡◌, ℕ, ◌+◌, ◌<◌, ◌≤◌, ◌^◌, Bool, true, false, ◌&&◌, ◌||◌, [], length, Option, Some, None}
+use Rattle.std.proofs.Common.{refl, ap, arith, rules, ⊎_elim}
 use Rattle.std.proofs.lemmas.Bool.{leb-false, ltb-false, eqb-false, lt-ltb, cases_Bool, cond_both, not-false}
 use Rattle.std.proofs.lemmas.Bool.{true_from_ne_false, both_ways, cond-true, cond-false}
 use Rattle.std.proofs.lemmas.Option.{cond_some}
 use Rattle.std.proofs.lemmas.Fmt.{length-decimal-le}
 use Rattle.coap_store.specs.Prelude.{codes, is_some, is_none, nat_le, nat_lt, ◌==◌, not, decimal, Message}
-use Rattle.coap_store.specs.Prelude.{first_critical}
-use Rattle.coap_store.specs.Prelude.{Path, is_path, Representation, StoreValue, found_in, is_dynamic, is_async}
-use Rattle.coap_store.specs.Prelude.{kind_of_path, key_for, stored_at, state_at, state_of, RequestTarget, target_of}
-use Rattle.coap_store.specs.Prelude.{listing, values_of, value_of, number_of, has_option, is_get, is_delete, is_method}
-use Rattle.coap_store.specs.Prelude.{path_of, preconditions_hold, is_good_query, Answer, Delete, only, says, stored}
-use Rattle.coap_store.specs.Prelude.{is_accepted, etag_at, is_among, valid, content, watched, late, get_answer}
-use Rattle.coap_store.specs.Prelude.{greatest_version, stored_under, too_large, store_answer, deletion, delete_answer}
-use Rattle.coap_store.specs.Prelude.{needs_resource, read_answer, method_answer, resource_answer, answer_at}
-use Rattle.coap_store.specs.Prelude.{removes_watch, with_observe_rule, answer_of, without_hold_if, without_hold}
-use Rattle.coap_store.specs.Prelude.{TakesPut, IsFoundAt, IsChangeAt, IfSome, TakesChange, changes}
-use Rattle.coap_store.specs.Prelude.{ResourceKind, Root, Time, Async, Listing, Dynamic, Drop}
+use Rattle.coap_store.specs.Prelude.{first_critical, Path, is_path, Representation, StoreValue, found_in, is_dynamic}
+use Rattle.coap_store.specs.Prelude.{is_async, kind_of_path, key_for, stored_at, state_at, state_of, RequestTarget}
+use Rattle.coap_store.specs.Prelude.{target_of, listing, values_of, value_of, has_option, is_get, is_method, path_of}
+use Rattle.coap_store.specs.Prelude.{preconditions_hold, is_good_query, Answer, Delete, only, says, stored, etag_at}
+use Rattle.coap_store.specs.Prelude.{is_among, valid, content, watched, late, get_answer, greatest_version}
+use Rattle.coap_store.specs.Prelude.{stored_under, too_large, store_answer, deletion, delete_answer, needs_resource}
+use Rattle.coap_store.specs.Prelude.{read_answer, method_answer, resource_answer, answer_at, removes_watch}
+use Rattle.coap_store.specs.Prelude.{with_observe_rule, answer_of, without_hold_if, without_hold, TakesPut, IsFoundAt}
+use Rattle.coap_store.specs.Prelude.{IsChangeAt, IfSome, TakesChange, changes, ResourceKind, Root, Time, Async, Listing}
+use Rattle.coap_store.specs.Prelude.{Dynamic, Drop}
 use Rattle.coap_wire.specs.Codes as code
 use Rattle.coap_wire.specs.OptionNumbers as numbers
 
@@ -44,13 +43,7 @@ pub known_get_cases : (P : Answer → Type 0) (place : ResourceKind) (r : Repres
     → OfKnownContents P place r m → P (get_answer place r m)
 unfolding get_answer
 known_get_cases P place r m errors contents =
-    let good = is_good_query (value_of numbers.uri_query m) in
-    either (not (is_accepted (number_of numbers.accept m) r.format))
-    (λ e. rw e (errors code.not_acceptable refl)) (λ e. rw e (
-    either (is_among (etag_at place r) (values_of numbers.etag m)) (λ e. rw e (contents.valid e)) (λ new. rw new (
-    either (is_async place && not good) (λ e. rw e (errors code.bad_request refl)) (λ query. rw query (
-    either (is_async place) (λ e. rw e (contents.late e (not-false good (rw e at query))))
-    (λ e. rw e (contents.content new))))))))
+    grind (arith, either, contents.valid, contents.late, not-false, contents.content)
 
 -- The property holds for each answer to a GET of a representation.
 pub record OfContents (P : Answer → Type 0) (place : ResourceKind) (r : Representation) (m : Message) : Type 0 where
@@ -62,7 +55,7 @@ pub get_cases : (P : Answer → Type 0) (place : ResourceKind) (r : Representati
     → OfContents P place r m → P (get_answer place r m)
 get_cases P place r m errors contents =
     known_get_cases P place r m errors
-    (record { valid = contents.valid; late = λ waits good. contents.late; content = λ new. contents.content })
+    (grind arith)
 
 -- No check rejects the representation.
 pub record CanStore (s : StoreValue) (t : RequestTarget) (m : Message) : Type 0 where
@@ -73,13 +66,7 @@ pub record CanStore (s : StoreValue) (t : RequestTarget) (m : Message) : Type 0 
 pub store_cases : (P : Answer → Type 0) (s : StoreValue) (t : RequestTarget) (m : Message) → OfErrors P
     → P (too_large s) → (CanStore s t m → P (stored_under t.key t.state m)) → P (store_answer s t m)
 unfolding store_answer
-store_cases P s t m errors large can =
-    either (nat_lt s.rep_max (length m.payload)) (λ e. rw e large) (λ small. rw small (
-    either (is_none t.state && is_none t.key) (λ e. rw e (errors code.bad_request refl)) (λ e. rw e (
-    either (is_none t.state && nat_le s.dynamic_max (length s.resources))
-    (λ e. rw e (errors code.not_acceptable refl)) (λ room. rw room (
-    either (s.versions == greatest_version) (λ e. rw e (errors code.service_unavailable refl)) (λ e. rw e (
-    can (record { small = small; room = room; version_left = e })))))))))
+store_cases P s t m errors large can = grind (arith, either)
 
 -- The property holds for each answer of a method that is allowed.
 pub record OfMethods (P : Answer → Type 0) (s : StoreValue) (t : RequestTarget) (m : Message) : Type 0 where
@@ -111,39 +98,30 @@ pub record PassesChecks (s : StoreValue) (t : RequestTarget) (m : Message) : Typ
 pub checked_cases : (P : Answer → Type 0) (s : StoreValue) (t : RequestTarget) (m : Message) → OfErrors P
     → (PassesChecks s t m → P (method_answer s t m)) → P (answer_at s t m)
 unfolding answer_at resource_answer
-checked_cases P s t m errors passed =
-    either (is_some (first_critical m.options)) (λ e. rw e (errors code.bad_option refl)) (λ options. rw options (
-    either (has_option numbers.proxy_uri m || has_option numbers.proxy_scheme m)
-    (λ e. rw e (errors code.proxying_not_supported refl)) (λ proxy. rw proxy (
-    either (not (is_method m)) (λ e. rw e (errors code.method_not_allowed refl)) (λ method. rw method (
-    either (is_none t.state && needs_resource s m) (λ e. rw e (errors code.not_found refl)) (λ present. rw present (
-    either (not (is_dynamic t.place) && not (is_get m))
-    (λ e. rw e (errors code.method_not_allowed refl)) (λ allowed. rw allowed (
-    either (not (preconditions_hold t.state m)) (λ e. rw e (errors code.precondition_failed refl))
-    (λ conditions. rw conditions (passed (record {
-      options = options;
-      proxy = proxy;
-      method = method;
-      present = present;
-      allowed = allowed;
-      conditions = conditions;
-    })))))))))))))
+checked_cases P s t m errors passed = grind (arith, either)
 
 -- Methods other than GET are rejected for built-in resources, so another method has a created resource.
 known_answer_cases : (P : Answer → Type 0) (s : StoreValue) (t : RequestTarget) (m : Message) → OfErrors P
     → OfKnownMethods P s t m → P (answer_at s t m)
 unfolding method_answer
 known_answer_cases P s t m errors methods =
-    checked_cases P s t m errors (λ passes.
-    cond_both (is_get m) _ _ P (λ get. read_cases P t.place t.state m errors (methods.read get)) (λ other.
-    let dynamic = true_from_ne_false (is_dynamic t.place) (λ built. both_ways _ passes.allowed (rw (built, other))) in
-    cond_both (is_delete m) _ _ P (λ _. methods.deleted dynamic other) (λ _. methods.stored dynamic other)))
+    checked_cases P s t m errors (λ passes. grind (
+      arith,
+      cond_both,
+      read_cases,
+      methods.read,
+      true_from_ne_false,
+      both_ways,
+      passes.allowed,
+      methods.deleted,
+      methods.stored,
+    ))
 
 pub answer_cases : (P : Answer → Type 0) (s : StoreValue) (t : RequestTarget) (m : Message) → OfErrors P
     → OfMethods P s t m → P (answer_at s t m)
 answer_cases P s t m errors methods =
     known_answer_cases P s t m errors
-    (record { read = λ get. methods.read; deleted = methods.deleted; stored = methods.stored })
+    (grind arith)
 
 -- ---- changes of an answer
 
@@ -213,17 +191,7 @@ by_key : (s : StoreValue) (now : ℕ) (m : Message) (P : Option Path → Option 
     → ((state : Option Representation) → IsOfStored s now m state → P (Some (path_of m)) state)
     → P (key_for (path_of m)) (state_of s now (path_of m))
 unfolding key_for
-by_key s now m P dynamic method none some =
-    let path = path_of m in
-    let state = state_dynamic s now (key_for path) (kind_of_path path) dynamic in
-    either (is_path path)
-    (λ is. let key : key_for path ≡ Some path = cond-true (is_path path) (Some path) None is in
-    let there : state_of s now path ≡ found_in s.resources path = state ∙ ap (stored_at s) key in
-    let place = place_dynamic _ dynamic in
-    rw (there, key) (some _ (record { method = method; is = is; place = place; found = refl; there = there })))
-    (λ no. let key : key_for path ≡ None = cond-false (is_path path) (Some path) None no in
-    let there : state_of s now path ≡ None = state ∙ ap (stored_at s) key in
-    rw (there, key) (none there))
+by_key s now m P dynamic method none some = grind (arith, state_dynamic, either, cond-true, place_dynamic, cond-false)
 
 pub final : (P : Answer → Type 0) (b : Bool) (a : Answer)
     → (b ≡ true → (a : Answer) → P a → P (record a { watch = Drop })) → P a → P (with_observe_rule b a)
@@ -269,14 +237,7 @@ has_room (Some r) most n e = refl
 -- The store accepts a representation that passed the checks.
 put_taken : (s : StoreValue) (now : ℕ) (m : Message) (state : Option Representation) → s.versions < 2 ^ 64
     → IsOfStored s now m state → CanStore s (target_of s now (path_of m)) m → TakesPut s (path_of m) m.payload
-put_taken s now m state small of can = record {
-  path_ok = of.is;
-  place = of.place;
-  small = ltb-false s.rep_max (length m.payload) can.small;
-  room = has_room (found_in s.resources (path_of m)) s.dynamic_max (length s.resources)
-      (rw (of.there ∙ sym of.found) at can.room);
-  version_left = version_fits s.versions can.version_left small;
-}
+put_taken s now m state small of can = grind (arith, ltb-false, has_room, version_fits, can.version_left)
 
 pub taken_of : (s : StoreValue) (now : ℕ) (m : Message) → s.versions < 2 ^ 64 → TakesChange s (answer_of s now m).change
 taken_of s now m small =
@@ -294,6 +255,11 @@ IsPlain a = changes a.change ≡ true → a.response ≡ record (only a.response
 
 pub plain_of : (s : StoreValue) (now : ℕ) (m : Message) → IsPlain (answer_of s now m)
 plain_of s now m = answer_holds IsPlain s now m (search rules)
+
+-- An answer without a change has no path.
+pub located_of : (s : StoreValue) (now : ℕ) (m : Message) → changes (answer_of s now m).change ≡ false
+    → (answer_of s now m).response.location ≡ []
+located_of s now m = answer_holds (λ a. changes a.change ≡ false → a.response.location ≡ []) s now m (search rules)
 
 -- ---- a change is at the path of its request
 

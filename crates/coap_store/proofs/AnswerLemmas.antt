@@ -2,7 +2,7 @@
 use Rattle.std.proofs.Common.{◌≡◌, ℕ, true, false}
 use Rattle.coap_store.specs.Prelude.{Message, StoreValue, path_of, target_of, Answer, answer_at, answer_of}
 use Rattle.coap_store.specs.Prelude.{removes_watch, Drop}
-use Rattle.coap_store.proofs.AnswerLaws.{taken_of, bare_of, short_of, placed_of, plain_of}
+use Rattle.coap_store.proofs.AnswerLaws.{taken_of, bare_of, short_of, plain_of}
 use Rattle.coap_store.proofs.StoreLemmas.{stored_small}
 
 -- The answer before Observe 1 is considered.

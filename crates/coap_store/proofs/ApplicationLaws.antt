@@ -1,8 +1,8 @@
 -- The requests that the application answers, and the answer to a request that is answered at once.
 use Rattle.std.proofs.Common.{◌≡◌, ℕ, true, false, Option, Some, None, refl, arith}
 use Rattle.coap_store.specs.Prelude.{Message, StoreValue, Answer, says, only, immediate_answer, prompt_answer}
-use Rattle.coap_store.specs.Prelude.{application_deadline, unless_handed, passes_checks, ApplicationsValue, is_answered}
-use Rattle.coap_store.specs.Prelude.{is_dynamic, kind_of_path, path_of}
+use Rattle.coap_store.specs.Prelude.{application_deadline, passes_checks, ApplicationsValue, is_answered, is_dynamic}
+use Rattle.coap_store.specs.Prelude.{kind_of_path, path_of}
 use Rattle.coap_wire.specs.Codes as code
 
 -- ---- the deadline
@@ -35,11 +35,7 @@ none_built_in (Some a) m off = rw off
 pub prompt_cases : (s : StoreValue) (now : ℕ) (m : Message) (P : Answer → Type 0)
     → P (says (only code.service_unavailable)) → P (immediate_answer s now m) → P (prompt_answer s now m)
 unfolding prompt_answer
-prompt_cases s now m P handed prompt =
-    elim (application_deadline s.applications m) as (λ d. P (unless_handed d (immediate_answer s now m))) [
-      | None ↦ prompt
-      | Some deadline ↦ handed
-    ]
+prompt_cases s now m P handed prompt = grind arith
 
 pub prompt_without : (s : StoreValue) (now : ℕ) (m : Message) → s.applications ≡ None
     → prompt_answer s now m ≡ immediate_answer s now m

@@ -4,24 +4,20 @@ use Rattle.std.proofs.Common.{None, refl, sym, ap, ◌∙◌, arith}
 use Rattle.std.specs.Prelude.{position}
 use Rattle.std.specs.List.{remove}
 use Rattle.std.specs.Map.{keys_of}
-use Rattle.coap_store.specs.Prelude.{option_map, not, nat_eq, option_eq, lookup, insert_entry, set_value_at}
-use Rattle.coap_store.specs.Prelude.{Path, Representation, found_in, put_at, removed_at}
-use Rattle.coap_store.specs.Prelude.{entry_bytes}
-use Rattle.coap_store.specs.Prelude.{built_in_bytes, first_bytes, representation, resources_in, texts_of, Resource}
-use Rattle.coap_store.specs.Prelude.{IsFoundAt, replaced_at}
+use Rattle.coap_store.specs.Prelude.{option_map, not, nat_eq, option_eq, lookup, insert_entry, set_value_at, Path}
+use Rattle.coap_store.specs.Prelude.{Representation, found_in, put_at, removed_at, entry_bytes, built_in_bytes}
+use Rattle.coap_store.specs.Prelude.{first_bytes, representation, resources_in, texts_of, Resource, IsFoundAt}
+use Rattle.coap_store.specs.Prelude.{replaced_at}
 use Rattle.std.specs.Option.{is_some}
 use Rattle.std.proofs.lemmas.Bool.{eqb-true, not-false}
 use Rattle.std.proofs.lemmas.List.{length-map}
 use Rattle.coap_store.specs.Store as store
 use Rattle.coap_path.specs.contracts.path.PathKeyPartialEq.TheImpl as key_eq
 use Rattle.coap_path.proofs.PathLemmas.{key_equality}
-use Rattle.coap_store.proofs.ListingLemmas.{IsFirstAt, resources_found, resources_put}
-use Rattle.coap_store.proofs.ListingLemmas.{texts_created, first_at}
-use Rattle.coap_store.proofs.ListingLemmas.{by_head, head_is}
-use Rattle.coap_store.proofs.ListingLemmas.{texts_removed, texts_count}
-use Rattle.coap_store.proofs.ListingLemmas.{texts_length}
+use Rattle.coap_store.proofs.ListingLemmas.{IsFirstAt, resources_found, resources_put, texts_created, first_at, by_head}
+use Rattle.coap_store.proofs.ListingLemmas.{head_is, texts_removed, texts_count, texts_length, entry_of, text_at}
+use Rattle.coap_store.proofs.ListingLemmas.{texts_kept, texts_changed}
 use Rattle.coap_store.proofs.LinkLemmas.{end_within}
-use Rattle.coap_store.proofs.ListingLemmas.{entry_of, text_at, texts_kept, texts_changed}
 
 -- The comparison of keys in the map.
 abbrev pub key_test : Path → Path → Bool

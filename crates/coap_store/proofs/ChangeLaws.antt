@@ -1,6 +1,6 @@
 -- The answers that change a store, and the effect of a change.
-use Rattle.std.proofs.Common.{◌≡◌, ◌≢◌, ℕ, ◌+◌, true, false, List, [], ◌∷◌, length, Option, Some, None, refl}
-use Rattle.std.proofs.Common.{sym, ap, ◌∙◌, arith, rules}
+use Rattle.std.proofs.Common.{◌≡◌, ◌≢◌, ℕ, ◌+◌, true, false, List, [], ◌∷◌, length, Option, Some, None, refl, sym, ap}
+use Rattle.std.proofs.Common.{◌∙◌, arith, rules}
 use Rattle.std.proofs.lemmas.Bool.{both_ways, cond_both, false_from_ne_true}
 use Rattle.std.proofs.lemmas.Bool.Decides.{nat_tests}
 use Rattle.coap_store.specs.Prelude.{is_some, Message, Path, same_path, Representation, StoreValue, found_in, put_at}
@@ -50,19 +50,13 @@ pub put_distinct : (rs : List Resource) (path : Path) (now : Representation) →
 unfolding found_in put_at
 put_distinct [] path now distinct = (refl, tt)
 put_distinct (r ∷ rs) path now distinct =
-    cond_both (same_path path r.path) _ _ AreDistinct (λ e. distinct) (λ e. (
-      other_put rs path r.path now (apart_from path r.path e) ∙ distinct.0,
-      put_distinct rs path now distinct.1,
-    ))
+    grind (arith, cond_both, other_put, apart_from, put_distinct rs path now distinct.1)
 
 pub removed_distinct : (rs : List Resource) (path : Path) → AreDistinct rs → AreDistinct (removed_at rs path)
 unfolding removed_at
 removed_distinct [] path distinct = tt
 removed_distinct (r ∷ rs) path distinct =
-    cond_both (same_path path r.path) _ _ AreDistinct (λ e. distinct.1) (λ e. (
-      other_removed rs path r.path (apart_from path r.path e) ∙ distinct.0,
-      removed_distinct rs path distinct.1,
-    ))
+    grind (arith, cond_both, other_removed, apart_from, removed_distinct rs path distinct.1)
 
 -- ---- a change
 
@@ -139,9 +133,7 @@ delayed_changes_nothing s now m seconds =
 pub prompt_changes_where : (s : StoreValue) (now : ℕ) (m : Message) → changes (immediate_answer s now m).change
     ≡ says_change (immediate_answer s now m).response (state_of s now (path_of m))
 unfolding immediate_answer
-prompt_changes_where s now m =
-    prompt_holds (λ a. changes a.change ≡ says_change a.response (state_of s now (path_of m))) (answer_of s now m)
-    (changes_where s now m) (λ seconds late. rw (delayed_changes_nothing s now m seconds late) refl)
+prompt_changes_where s now m = grind (arith, prompt_holds, changes_where, delayed_changes_nothing)
 
 pub said : (s : StoreValue) (now : ℕ) (m : Message)
     → says_change (answer_of s now m).response (state_of s now (path_of m)) ≡ true
@@ -157,9 +149,7 @@ pub said_promptly : (s : StoreValue) (now : ℕ) (m : Message)
     → says_change (immediate_answer s now m).response (state_of s now (path_of m)) ≡ true
     → changed s (immediate_answer s now m).change ≢ s
 unfolding immediate_answer
-said_promptly s now m says =
-    other_store s _ (rw (change_without_hold (answer_of s now m).hold) (deletes_stored s now m))
-    (prompt_changes_where s now m ∙ says)
+said_promptly s now m says = grind (arith, other_store, change_without_hold, deletes_stored, prompt_changes_where)
 
 pub not_said_promptly : (s : StoreValue) (now : ℕ) (m : Message)
     → says_change (immediate_answer s now m).response (state_of s now (path_of m)) ≡ false

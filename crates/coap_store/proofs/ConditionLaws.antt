@@ -1,18 +1,18 @@
 -- The checks of a request before its method: the critical options, and the conditions.
-use Rattle.std.proofs.Common.{◌≡◌, ◌≢◌, inl, inr, ⊎_elim, ℕ, Bool, true, false, ◌==◌, not, List, [], ◌∷◌, length}
-use Rattle.std.proofs.Common.{Option, Some, None, refl, arith, rules}
+use Rattle.std.proofs.Common.{◌≡◌, ◌≢◌, inl, inr, ℕ, Bool, true, false, ◌==◌, not, List, [], ◌∷◌, Option, Some, None}
+use Rattle.std.proofs.Common.{refl, arith, rules}
 use Rattle.std.proofs.lemmas.Bool.{both_ways, cond_both, false_from_ne_true, true_from_ne_false, leb-true, eqb-true}
 use Rattle.std.proofs.lemmas.Bool.{and_right, and_parts, and_cases, or_parts, or_from, not-false, not_from_false}
 use Rattle.std.proofs.lemmas.Bool.{eq-eqb, not-true}
 use Rattle.std.proofs.lemmas.List.{nil_from_length}
 use lib.Pointwise.{bytes_decides}
-use Rattle.coap_store.specs.Prelude.{AllByRecursion, list_any, is_some, Message, first_critical}
-use Rattle.coap_store.specs.Prelude.{Path, Representation, StoreValue, state_of, target_of, RequestTarget}
-use Rattle.coap_store.specs.Prelude.{has_option, path_of, etag_of, match_holds, preconditions_hold}
-use Rattle.coap_store.specs.Prelude.{Answer, Nothing, only, answer_of, answer_at, resource_answer, method_answer}
-use Rattle.coap_store.specs.Prelude.{get_answer, read_answer, store_answer, stored_under, removes_watch}
-use Rattle.coap_store.specs.Prelude.{is_get, is_delete, same_bytes, is_none, passes_checks, kind_of_path, Dynamic}
-use Rattle.coap_store.specs.Prelude.{FailsIfMatch, FailsIfNoneMatch, FailsCondition, IsRejection, ResourceKind}
+use Rattle.coap_store.specs.Prelude.{AllByRecursion, list_any, is_some, Message, first_critical, Path, Representation}
+use Rattle.coap_store.specs.Prelude.{StoreValue, state_of, target_of, RequestTarget, has_option, path_of, etag_of}
+use Rattle.coap_store.specs.Prelude.{match_holds, preconditions_hold, Answer, Nothing, only, answer_of, answer_at}
+use Rattle.coap_store.specs.Prelude.{resource_answer, method_answer, get_answer, read_answer, store_answer}
+use Rattle.coap_store.specs.Prelude.{stored_under, removes_watch, is_get, is_delete, is_none, passes_checks}
+use Rattle.coap_store.specs.Prelude.{kind_of_path, Dynamic, FailsIfMatch, FailsIfNoneMatch, FailsCondition, IsRejection}
+use Rattle.coap_store.specs.Prelude.{ResourceKind}
 use Rattle.coap_store.specs.Requests.{matches, none_match_holds}
 use Rattle.coap_store.specs.Answer.{first_of, when}
 use Rattle.coap_wire.specs.Codes as code
@@ -22,15 +22,11 @@ use Rattle.coap_store.proofs.AnswerLaws.{checked_cases, final}
 -- ---- the meaning of the conditions
 
 value_fails : (r : Representation) (value : List ℕ) → value ≢ [] → value ≢ etag_of r → matches r value ≡ false
-value_fails r value filled other =
-    or_from _ _ (false_from_ne_true _ (λ e. filled (nil_from_length value (eqb-true (length value) 0 e))))
-    (false_from_ne_true _ (λ e. other ((bytes_decides value (etag_of r)).0 e)))
+value_fails r value filled other = grind (arith, or_from, false_from_ne_true, nil_from_length, eqb-true, bytes_decides)
 
 value_differs : (r : Representation) (value : List ℕ) → matches r value ≡ false
     → (value ≢ []) × (value ≢ etag_of r)
-value_differs r value fails =
-    let parts = or_parts (length value == 0) (same_bytes value (etag_of r)) fails in
-    ((λ e. both_ways _ parts.0 (rw e refl)), (λ e. both_ways _ parts.1 ((bytes_decides value (etag_of r)).1 e)))
+value_differs r value fails = grind (arith, or_parts, both_ways, bytes_decides)
 
 -- No value is empty or the ETag of the representation.
 abbrev AllDiffer : Representation → List (List ℕ) → Type 0
@@ -55,9 +51,7 @@ fails_match : (state : Option Representation) (m : Message) → match_holds stat
 unfolding match_holds
 fails_match None m fails =
     record { given = not-false _ (or_parts (not (has_option numbers.if_match m)) _ fails).0; other = tt }
-fails_match (Some r) m fails =
-    let parts = or_parts (not (has_option numbers.if_match m)) _ fails in
-    record { given = not-false _ parts.0; other = values_differ r _ parts.1 }
+fails_match (Some r) m fails = grind (arith, or_parts, not-false, values_differ)
 
 none_match_fails : (state : Option Representation) (m : Message) → FailsIfNoneMatch state m
     → none_match_holds state m ≡ false
@@ -67,7 +61,7 @@ none_match_fails (Some r) m fails = rw fails.given refl
 fails_none_match : (state : Option Representation) (m : Message) → none_match_holds state m ≡ false
     → FailsIfNoneMatch state m
 fails_none_match None m fails =
-    absurd (both_ways _ fails (not_from_false _ (and_right (has_option numbers.if_none_match m) _ refl)))
+    absurd (grind (arith, both_ways, not_from_false, and_right))
 fails_none_match (Some r) m fails =
     record { given = (and_parts (has_option numbers.if_none_match m) _ (not-false _ fails)).0; present = refl }
 
@@ -78,18 +72,14 @@ conditions_fail state m (inr fails) = and_right _ _ (none_match_fails state m fa
 
 pub fails_condition : (state : Option Representation) (m : Message) → preconditions_hold state m ≡ false
     → FailsCondition state m
-fails_condition state m fails =
-    ⊎_elim (λ first. inl (fails_match state m first)) (λ second. inr (fails_none_match state m second))
-    (and_cases (match_holds state m) _ fails)
+fails_condition state m fails = grind (arith, fails_match, fails_none_match, and_cases)
 
 -- ---- a failed check rejects the request
 
 pub bad_option_rejected : (s : StoreValue) (now : ℕ) (m : Message) → is_some (first_critical m.options) ≡ true
     → ((answer_of s now m).response ≡ only code.bad_option) × ((answer_of s now m).change ≡ Nothing)
 unfolding answer_of answer_at
-bad_option_rejected s now m bad =
-    final (λ a. (a.response ≡ only code.bad_option) × (a.change ≡ Nothing)) (removes_watch m)
-    (answer_at s (target_of s now (path_of m)) m) (λ _ a h. h) (rw bad (refl, refl))
+bad_option_rejected s now m bad = grind (arith, final)
 
 pub condition_rejected : (s : StoreValue) (now : ℕ) (m : Message) → FailsCondition (state_of s now (path_of m)) m
     → IsRejection (answer_of s now m)
@@ -98,7 +88,7 @@ condition_rejected s now m fails =
     let t = target_of s now (path_of m) in
     let no = conditions_fail t.state m fails in
     final IsRejection (removes_watch m) (answer_at s t m)
-    (λ _ a is. record { error = is.error; quiet = is.quiet; unwatched = λ e. absurd cc })
+    (λ _ a is. grind arith)
     (checked_cases IsRejection s t m (λ c large. record {
       error = omega (arith, leb-true 128 c large);
       quiet = refl;
@@ -151,9 +141,7 @@ record IsNot (c : ℕ) (a : Answer) : Type 0 where
 other_than_bad_option : (s : StoreValue) (t : RequestTarget) (m : Message) → is_some (first_critical m.options) ≡ false
     → IsNot code.bad_option (answer_at s t m)
 unfolding answer_at resource_answer
-other_than_bad_option s t m none =
-    let method : IsNot code.bad_option (method_answer s t m) = record { other = (method_code s t m).no_option } in
-    rw none (search (rules, one_check (IsNot code.bad_option), method))
+other_than_bad_option s t m none = grind (arith, method_code, one_check)
 
 other_than_failed : (s : StoreValue) (t : RequestTarget) (m : Message) → preconditions_hold t.state m ≡ true
     → IsNot code.precondition_failed (answer_at s t m)
@@ -192,26 +180,12 @@ no_bad_option (Some n) none = absurd cc
 deleted_at : (s : StoreValue) (t : RequestTarget) (m : Message) → is_delete m ≡ true → passes_checks m ≡ true
     → t.place ≡ Dynamic → preconditions_hold t.state m ≡ true → (answer_at s t m).response ≡ only code.deleted
 unfolding answer_at resource_answer method_answer
-deleted_at s t m is passes place holds =
-    let deletes : m.code ≡ code.delete = eqb-true m.code code.delete is in
-    let checks = and_parts (is_none (first_critical m.options)) _ passes in
-    rw (
-      no_bad_option (first_critical m.options) checks.0,
-      not-true _ checks.1,
-      holds,
-      place,
-      deletes,
-      and_right (is_none t.state) false refl,
-    ) refl
+deleted_at s t m is passes place holds = grind (arith, eqb-true, and_parts, no_bad_option, not-true, and_right)
 
 pub delete_succeeds : (s : StoreValue) (now : ℕ) (m : Message) → is_delete m ≡ true → passes_checks m ≡ true
     → kind_of_path (path_of m) ≡ Dynamic → (FailsCondition (state_of s now (path_of m)) m → ⊥)
     → (answer_of s now m).response ≡ only code.deleted
 unfolding answer_of
-delete_succeeds s now m is passes place holds =
-    let t = target_of s now (path_of m) in
-    let met = true_from_ne_false _ (λ no. holds (fails_condition t.state m no)) in
-    final (λ a. a.response ≡ only code.deleted) (removes_watch m) (answer_at s t m) (λ _ a h. h)
-    (deleted_at s t m is passes place met)
+delete_succeeds s now m is passes place holds = grind (arith, true_from_ne_false, fails_condition, final, deleted_at)
 
 pub ruleset critical_steps = (bad_option_rejected, bad_option_only)

@@ -27,9 +27,7 @@ joined_split (n ∷ ns) bs whole =
 pub lengths_split : (ns bs : List ℕ) → sum ns ≡ length bs → map length (split_by ns bs) ≡ ns
 unfolding split_by
 lengths_split [] bs whole = refl
-lengths_split (n ∷ ns) bs whole =
-    let first : length (take n bs) ≡ n = omega (arith, length-take n bs, sum_cons n ns) in
-    rw (first, lengths_split ns (drop n bs) (omega (arith, sum_cons n ns, length-drop n bs)))
+lengths_split (n ∷ ns) bs whole = grind (arith, length-take, sum_cons, length-drop, lengths_split ns)
 
 -- ---- the text after a change
 
@@ -93,7 +91,7 @@ counted (n ∷ ns) bs = rw (counted ns (drop n bs))
 pub length_at : (ns bs : List ℕ) (i d : ℕ) → sum ns ≡ length bs → i < length ns
     → length (get_or (split_by ns bs) i []) ≡ get_or ns i d
 length_at ns bs i d whole = by_entries (λ ns bs es. i < length ns → length (get_or es i []) ≡ get_or ns i d)
-    (λ es within. sym (get_or-map length es i [] d (omega (arith, length-map es length)))) ns bs whole
+    (λ es within. grind (arith, get_or-map, length-map)) ns bs whole
 
 pub place_within : (ns : List ℕ) (i : ℕ) → i < length ns → sum (take i ns) + get_or ns i 0 ≤ sum ns
 place_within ns i within = sum_by_more_le (λ k. k) ns i 0 within

@@ -1,8 +1,7 @@
 -- The percent-encoding of a segment.
-use Rattle.std.proofs.Common.{◌≡◌, ℕ, ◌/◌, ◌%◌, ◌<◌, suc, List, [], ◌∷◌, get_or, refl}
-use Rattle.std.proofs.Common.{arith}
-use Rattle.coap_store.specs.Prelude.{not, flat_map, should_percent_encode, percent_encode_byte}
-use Rattle.coap_store.specs.Prelude.{encode_byte, percent_encode, ESCAPED, is_unreserved, encoded_byte}
+use Rattle.std.proofs.Common.{◌≡◌, ℕ, ◌/◌, ◌%◌, ◌<◌, suc, List, [], ◌∷◌, get_or, refl, arith}
+use Rattle.coap_store.specs.Prelude.{not, flat_map, should_percent_encode, percent_encode_byte, encode_byte}
+use Rattle.coap_store.specs.Prelude.{percent_encode, ESCAPED, is_unreserved, encoded_byte}
 use Rattle.std.proofs.lemmas.Bool.{agree_below_at}
 
 -- Unreserved bytes are not escaped, and all others are.

@@ -2,12 +2,10 @@
 use Rattle.std.proofs.Common.{◌≡◌, ◌≢◌, ℕ, ◌≤◌, true, List, Option, Some, None, ap, arith, rules}
 use Rattle.std.proofs.lemmas.Bool.{and_parts, leb-true}
 use Rattle.std.proofs.lemmas.Option.{same_Some}
-use Rattle.coap_store.specs.Prelude.{Message, Path, Representation, StoreValue, is_async, state_at}
-use Rattle.coap_store.specs.Prelude.{digits_mean, is_seconds, is_good_query}
-use Rattle.coap_store.specs.Prelude.{seconds_of, Answer, Nothing, only, content, delayed_response, is_delayed}
-use Rattle.coap_store.specs.Prelude.{answer_of}
-use Rattle.coap_store.specs.Prelude.{without_hold_if}
-use Rattle.coap_store.specs.Prelude.{immediate_answer, ResourceKind, Async, Add}
+use Rattle.coap_store.specs.Prelude.{Message, Path, Representation, StoreValue, is_async, state_at, digits_mean}
+use Rattle.coap_store.specs.Prelude.{is_seconds, is_good_query, seconds_of, Answer, Nothing, only, content}
+use Rattle.coap_store.specs.Prelude.{delayed_response, is_delayed, answer_of, without_hold_if, immediate_answer}
+use Rattle.coap_store.specs.Prelude.{ResourceKind, Async, Add}
 use Rattle.coap_wire.specs.Codes as code
 use Rattle.coap_store.proofs.AnswerLaws.{answer_holds, change_without_hold}
 use Rattle.coap_store.proofs.WatchLaws.{watched_at_once}

@@ -1,12 +1,9 @@
 -- The texts of the links: their parts, and their lengths.
-use Rattle.std.proofs.Common.{◌≡◌, ℕ, ◌-◌, ◌*◌, ◌<◌, ◌≤◌, true, List, [], ◌∷◌, ◌++◌, length, Option}
-use Rattle.std.proofs.Common.{Some, None, append_assoc, arith}
-use Rattle.coap_store.specs.Prelude.{AllByRecursion, IfSome, codes, flat_map}
-use Rattle.coap_store.specs.Prelude.{with_end}
-use Rattle.coap_store.specs.Prelude.{Path, is_path, written_length, ApplicationEntryValue, ApplicationsValue}
-use Rattle.coap_store.specs.Prelude.{attribute_bytes, encoded_byte, end_bytes}
-use Rattle.coap_store.specs.Prelude.{entry_bytes, first_bytes, format_bytes, is_unreserved, link_bytes}
-use Rattle.coap_store.specs.Prelude.{path_bytes}
+use Rattle.std.proofs.Common.{◌≡◌, ℕ, ◌-◌, ◌*◌, ◌<◌, ◌≤◌, true, List, [], ◌∷◌, ◌++◌, length, Option, Some, None}
+use Rattle.std.proofs.Common.{append_assoc, arith}
+use Rattle.coap_store.specs.Prelude.{AllByRecursion, IfSome, codes, flat_map, with_end, Path, is_path, written_length}
+use Rattle.coap_store.specs.Prelude.{ApplicationEntryValue, ApplicationsValue, attribute_bytes, encoded_byte, end_bytes}
+use Rattle.coap_store.specs.Prelude.{entry_bytes, first_bytes, format_bytes, is_unreserved, link_bytes, path_bytes}
 use Rattle.std.proofs.lemmas.Bool.{and_parts, leb-true, cond_both}
 use Rattle.std.proofs.lemmas.Fmt.{length-decimal-le}
 use Rattle.std.proofs.lemmas.List.{length-append}
@@ -80,14 +77,7 @@ attributes_short (b ∷ bs) is = omega (arith, leb-true (length (b ∷ bs)) 255 
 
 link_short : (e : ApplicationEntryValue) → IsEntry e → length (link_bytes e) ≤ 1024
 unfolding link_bytes
-link_short e is =
-    omega (
-      arith,
-      path_short e.prefix,
-      path_fits e.prefix is.path,
-      attributes_short e.attributes is.attributes,
-      length-append {A = ℕ},
-    )
+link_short e is = grind (arith, path_short, path_fits, attributes_short, length-append)
 
 links_bound : (es : List ApplicationEntryValue) → AllByRecursion IsEntry es
     → length (flat_map link_bytes es) ≤ 1024 * length es

@@ -3,11 +3,9 @@ use Rattle.std.proofs.Common.{◌≡◌, ℕ, zero, suc, ◌+◌, ◌*◌, ◌<�
 use Rattle.std.proofs.Common.{map, get_or, set, Option, Some, None, refl, sym, ap, ◌∙◌, arith, add-one}
 use Rattle.std.specs.Prelude.{slice_get, position}
 use Rattle.std.specs.List.{remove}
-use Rattle.coap_store.specs.Prelude.{IfSome, option_map, AllByRecursion, flat_map}
-use Rattle.coap_store.specs.Prelude.{lookup, insert_entry, set_value_at, joined}
-use Rattle.coap_store.specs.Prelude.{Path, same_path, is_path, Representation, found_in, put_at}
-use Rattle.coap_store.specs.Prelude.{entry_bytes, listing, representation, resource_at, resources_in}
-use Rattle.coap_store.specs.Prelude.{ApplicationsValue, first_bytes}
+use Rattle.coap_store.specs.Prelude.{IfSome, option_map, AllByRecursion, flat_map, lookup, insert_entry, set_value_at}
+use Rattle.coap_store.specs.Prelude.{joined, Path, same_path, is_path, Representation, found_in, put_at, entry_bytes}
+use Rattle.coap_store.specs.Prelude.{listing, representation, resource_at, resources_in, ApplicationsValue, first_bytes}
 use Rattle.coap_store.specs.Prelude.{Resource, texts_of, head_of, end_bytes, with_end}
 use Rattle.std.specs.Map.{keys_of}
 use Rattle.std.proofs.lemmas.List.{length-append, length-map, set-get_or}

@@ -1,6 +1,6 @@
 -- Bytes that are moved.
-use Rattle.std.proofs.Common.{◌≡◌, ℕ, ◌+◌, ◌-◌, ◌≤◌, List, [], ◌++◌, length, take, drop, sym, ◌∙◌}
-use Rattle.std.proofs.Common.{append_assoc, length-append, arith}
+use Rattle.std.proofs.Common.{◌≡◌, ℕ, ◌+◌, ◌-◌, ◌≤◌, List, [], ◌++◌, length, take, drop, sym, ◌∙◌, append_assoc}
+use Rattle.std.proofs.Common.{length-append, arith}
 use Rattle.std.proofs.lemmas.List.{append-nil, take-append-drop, take-take, drop-drop, drop-take, drop-append-le}
 use Rattle.std.proofs.lemmas.List.{drop_all, length-take-le, length-drop}
 use Rattle.std.proofs.lemmas.List.Edits.{drop-paste}
@@ -41,7 +41,7 @@ module _ (xs : List ℕ) (at n gap k : ℕ) (is : k ≡ n + gap) (within : at + 
       let other : k ≡ gap + n = omega arith in
       let zero_more : 0 + n ≡ n = omega arith in
       let moved : take n (drop gap (take k s)) ≡ take n (drop (at + gap) xs) =
-      rw (other, drop-take, take-take n n (drop gap s) (omega arith), drop-drop) in
+      grind (arith, drop-take, take-take, drop-drop) in
       let rest : drop (0 + n) (take k s) ≡ take gap (drop n s) = rw (zero_more, is, drop-take) in
       let tail : drop k s ≡ drop gap (drop n s) = rw is (sym (drop-drop gap n s)) in
       rw (moved, rest, tail) (simp append_assoc (rw (take-append-drop gap (drop n s), drop-drop n at xs)))
@@ -60,9 +60,7 @@ module _ (xs : List ℕ) (s : ℕ) where
   -- A gap after the start is removed.
   pub closed_gap : (at gap : ℕ) → s + at ≤ length xs
       → drop s (take (s + at) xs ++ drop (s + at + gap) xs) ≡ take at (drop s xs) ++ drop (at + gap) (drop s xs)
-  closed_gap at gap within =
-      let sums : s + at + gap ≡ s + (at + gap) = omega arith in
-      rw (drop_front at (drop (s + at + gap) xs) within, sums, drop-drop (at + gap) s xs)
+  closed_gap at gap within = grind (arith, drop_front, drop-drop)
 
   -- The bytes before a gap are moved down.
   pub opened_gap : (ys : List ℕ) (at gap : ℕ) → gap ≤ s → s + at ≤ length xs
@@ -75,16 +73,12 @@ module _ (xs : List ℕ) (s : ℕ) where
       let to : s - gap + at + gap ≡ s + at = omega (arith, few) in
       let now : ys ≡ paste xs (s - gap) (drop s xs) at = is ∙ (λ i. paste xs (s - gap) (drop (back i) xs) (count i)) in
       rw (drop-drop (at + gap) (s - gap) ys, from, ← drop-drop gap (s - gap + at) ys, now)
-      (rw (drop-paste xs (s - gap) (drop s xs) at (omega arith) (omega (arith, length-drop s xs)))
-      (rw (drop-drop gap (s - gap + at) xs, to) (sym (drop-drop at s xs))))
+      (grind (arith, drop-paste, length-drop, drop-drop))
 
   -- A part after the start is written.
   pub written_part : (new : List ℕ) (at k : ℕ) → s + at ≤ length xs
       → drop s (put_mid (s + at) k xs new) ≡ take at (drop s xs) ++ (new ++ drop (at + k) (drop s xs))
-  written_part new at k within =
-      let sums : s + at + k ≡ s + (at + k) = omega arith in
-      rw (drop_front at (new ++ drop k (drop (s + at) xs)) within, drop-drop k (s + at) xs, sums)
-      (rw (drop-drop (at + k) s xs))
+  written_part new at k within = grind (arith, drop_front, drop-drop)
 
 pub ruleset replace_steps = (written_part, length_written, common_steps)
 

@@ -3,8 +3,7 @@ use Rattle.std.proofs.Common.{◌≡◌, ℕ, Bool, true, false, ◌||◌, ◌==
 use Rattle.std.proofs.Common.{None, refl, sym, ap, ◌∙◌, arith}
 use Rattle.coap_store.specs.Prelude.{CoapOption, Message, known_options, values_of, value_of, has_option, path_of}
 use Rattle.coap_store.specs.Prelude.{is_given, first_or_none, match_along, place_at, RequestOptions, nothing}
-use Rattle.coap_store.specs.Prelude.{first_given}
-use Rattle.coap_store.specs.Prelude.{options_after, all_noted, AreOptionsOf}
+use Rattle.coap_store.specs.Prelude.{first_given, options_after, all_noted, AreOptionsOf}
 use Rattle.coap_wire.specs.OptionNumbers as numbers
 use Rattle.coap_store.proofs.RequestLemmas.{has_number, values_in}
 use Rattle.coap_path.proofs.MatchLemmas.{place_by_match}

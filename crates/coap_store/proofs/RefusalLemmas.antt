@@ -1,12 +1,8 @@
 -- The changes by the embedding program that are rejected, and those that are not.
-use Rattle.std.proofs.Common.{◌≡◌, ℕ, ◌<◌, ◌^◌, Bool, true, false, List, length, Option, Some, None}
-use Rattle.std.proofs.Common.{refl, sym, ap, ◌∙◌}
-use Rattle.coap_store.specs.Prelude.{is_some, is_none, not, option_map, IfSome, if◌then◌else◌}
-use Rattle.coap_store.specs.Prelude.{Bor, Path, is_path, Representation, StoreValue, found_in}
-use Rattle.coap_store.specs.Prelude.{put_in, kind_of_path, is_dynamic, representation, TakesPut}
-use Rattle.coap_store.specs.Prelude.{IsStore, put_refusal, remove_refusal}
-use Rattle.coap_store.specs.Prelude.{NoSuch}
-use Rattle.std.proofs.Common.{arith}
+use Rattle.std.proofs.Common.{◌≡◌, ℕ, ◌<◌, ◌^◌, true, false, List, Option, Some, None, refl, sym, ap, arith}
+use Rattle.coap_store.specs.Prelude.{is_some, is_none, not, option_map, IfSome, Bor, Path, is_path, Representation}
+use Rattle.coap_store.specs.Prelude.{StoreValue, found_in, put_in, kind_of_path, is_dynamic, representation, TakesPut}
+use Rattle.coap_store.specs.Prelude.{IsStore, put_refusal, remove_refusal, NoSuch}
 use Rattle.std.proofs.lemmas.Bool.Decides.{nat_tests}
 use Rattle.coap_store.specs.declared.resource.Resource as lent
 use Rattle.coap_store.proofs.AnswerLaws.{place_dynamic, version_fits, has_room}
@@ -18,13 +14,7 @@ use Rattle.coap_store.proofs.StoreLemmas.{store_put, found_kept}
 pub takes_put : (s : StoreValue) (path : Path) (bytes : List ℕ) → is_path path ≡ true → s.versions < 2 ^ 64
     → put_refusal s path bytes ≡ None → TakesPut s path bytes
 unfolding put_refusal
-takes_put s path bytes is fits none = record {
-  path_ok = is;
-  place = place_dynamic _ (grind arith);
-  small = grind (arith, nat_tests);
-  room = has_room _ s.dynamic_max (length s.resources) (grind arith);
-  version_left = version_fits s.versions (grind arith) fits;
-}
+takes_put s path bytes is fits none = grind (arith, place_dynamic, nat_tests, has_room, version_fits)
 
 pub put_keeps : (s : StoreValue) (path : Path) (format : Option ℕ) (bytes : List ℕ) → IsStore s → is_path path ≡ true
     → put_refusal s path bytes ≡ None → IfSome format (λ number. number < 65536) → IsStore (put_in s path format bytes)
@@ -54,9 +44,7 @@ pub remove_present : (s : StoreValue) (path : Path) (lent : Option (Bor lent.Res
     → option_map (λ r. representation r.now) lent ≡ found_in s.resources path → is_none lent ≡ false
     → remove_refusal s path ≡ None
 unfolding remove_refusal
-remove_present s path lent is same some =
-    let there = sym (lent_alike lent (found_in s.resources path) same) ∙ some in
-    rw (found_dynamic s path (found_in s.resources path) is refl there, there)
+remove_present s path lent is same some = grind (arith, lent_alike, found_dynamic)
 
 -- A resource is removed if and only if one is found.
 pub removal_reported : (s : StoreValue) (path : Path) (lent : Option (Bor lent.Resource)) → IsStore s

@@ -1,8 +1,8 @@
 -- A version identifies a representation, even if that is no longer stored.
-use Rattle.std.proofs.Common.{◌≡◌, Some, sym, ap, ◌∙◌, arith}
+use Rattle.std.proofs.Common.{◌≡◌, Some, arith}
 use Rattle.std.proofs.lemmas.Option.{same_Some, none-some}
-use Rattle.coap_store.specs.Prelude.{Path, Representation, StoreValue, found_in, Change, Nothing, Put, Delete}
-use Rattle.coap_store.specs.Prelude.{changed, IsStore, WasStored}
+use Rattle.coap_store.specs.Prelude.{Path, Representation, StoreValue, found_in, Change, Nothing, Put, Delete, changed}
+use Rattle.coap_store.specs.Prelude.{IsStore, WasStored}
 use Rattle.coap_store.proofs.StoreLemmas.{one_version, found_kept}
 use Rattle.coap_store.proofs.ChangeLaws.{put_is_stored, other_is_kept_on_put, other_is_kept_on_delete, deleted_is_gone}
 use Rattle.coap_store.proofs.VersionLaws.{by_path}
@@ -17,16 +17,7 @@ is_stored s path sent is found = record {
 pub was_stored : (s : StoreValue) (change : Change) (path : Path) (sent : Representation) → IsStore s
     → WasStored s path sent → WasStored (changed s change) path sent
 was_stored s Nothing path sent is was = was
-was_stored s (Put at format bytes) path sent is was = record {
-  given = omega (arith, was.given);
-  same = λ other r found versions. by_path other at
-      (λ here. (let now = same_Some _ _ (sym (put_is_stored s at format bytes) ∙ rw here at found) in
-      absurd (omega (arith, was.given, versions, ap (λ x. x.version) now))))
-      (λ apart. was.same other r (sym (other_is_kept_on_put s at other format bytes apart) ∙ found) versions);
-}
-was_stored s (Delete at) path sent is was = record {
-  given = was.given;
-  same = λ other r found versions. by_path other at
-      (λ here. absurd (none-some r (sym (deleted_is_gone s at is.paths) ∙ rw here at found)))
-      (λ apart. was.same other r (sym (other_is_kept_on_delete s at other apart) ∙ found) versions);
-}
+was_stored s (Put at format bytes) path sent is was =
+    grind (arith, by_path, same_Some, put_is_stored, was.same, other_is_kept_on_put)
+was_stored s (Delete at) path sent is was =
+    grind (arith, by_path, none-some, deleted_is_gone, was.same, other_is_kept_on_delete)

@@ -1,11 +1,11 @@
 -- The recognised options with one number, and their values.
-use Rattle.std.proofs.Common.{◌≡◌, ℕ, ◌<◌, ◌≤◌, Bool, true, false, ◌&&◌, ◌||◌, ◌==◌, List, [], ◌∷◌, length, map}
-use Rattle.std.proofs.Common.{filter, get_or, Option, Some, None, refl, sym, ap, ◌∙◌, arith}
+use Rattle.std.proofs.Common.{◌≡◌, ℕ, ◌<◌, ◌≤◌, Bool, true, false, ◌&&◌, ◌||◌, ◌==◌, List, [], ◌∷◌, length, map, filter}
+use Rattle.std.proofs.Common.{get_or, Option, Some, None, refl, sym, ap, ◌∙◌, arith}
 use Rattle.coap_store.specs.Prelude.{option_map, nat_le, is_some, IfSome, then_some, list_any, list_all, CoapOption}
-use Rattle.coap_store.specs.Prelude.{Message, once, kind_of, has_kind, is_recognised, checked_given, recognised_in}
-use Rattle.coap_store.specs.Prelude.{known_options, uint_of, bytes_of_uint, OptionKind, same_bytes, Representation}
-use Rattle.coap_store.specs.Prelude.{values_of, has_option, value_of, number_of, is_given, first_or_none}
-use Rattle.coap_store.specs.Prelude.{match_holds, is_digit, digits_mean, is_seconds}
+use Rattle.coap_store.specs.Prelude.{Message, once, kind_of, is_recognised, checked_given, recognised_in, known_options}
+use Rattle.coap_store.specs.Prelude.{uint_of, bytes_of_uint, OptionKind, same_bytes, Representation, values_of}
+use Rattle.coap_store.specs.Prelude.{has_option, value_of, number_of, is_given, first_or_none, match_holds, is_digit}
+use Rattle.coap_store.specs.Prelude.{digits_mean, is_seconds}
 use Rattle.std.proofs.lemmas.Bool.{and_parts, and_left, and_right, leb-true, le-leb, eqb-true}
 use Rattle.std.proofs.lemmas.Bool.Decides.{nat_tests}
 use Rattle.std.proofs.lemmas.Option.{same_Some}
@@ -51,9 +51,7 @@ none_passes passes number m none = none_given_passes passes (values_of number m)
 recognised_fits : (before : List CoapOption) (o : CoapOption) (kind : OptionKind) → kind_of o.number ≡ Some kind
     → is_recognised before o ≡ true → length o.value ≤ kind.max
 unfolding is_recognised
-recognised_fits before o kind is test =
-    let known : has_kind before o (Some kind) ≡ true = rw is at test in
-    leb-true (length o.value) kind.max (and_parts _ _ (and_parts _ _ known).0).1
+recognised_fits before o kind is test = grind (arith, leb-true, and_parts)
 
 -- The first value with the number, among the recognised options of `os`.
 abbrev first_given : ℕ → List CoapOption → List CoapOption → Option (List ℕ)

@@ -1,18 +1,15 @@
 -- The relation of requests and responses to the state of a path.
 use Rattle.std.proofs.Common.{◌≡◌, ◌≢◌, inl, inr, ℕ, ◌+◌, ◌≤◌, Bool, true, false, List, [], ◌∷◌, ◌++◌, length, map}
 use Rattle.std.proofs.Common.{rules, filter, Option, Some, None, refl, sym, ap, ◌∙◌, arith}
-use Rattle.coap_store.specs.Prelude.{◌==◌, AllByRecursion, kind_of, is_recognised, checked_given}
-use Rattle.coap_store.specs.Prelude.{first_critical_in, recognised_in, Message, CoapOption, Path, is_path}
-use Rattle.coap_store.specs.Prelude.{written_length, Representation, StoreValue, found_in, kind_of_path, key_for}
-use Rattle.coap_store.specs.Prelude.{state_at, state_of, target_of, values_of, value_of, has_option}
-use Rattle.coap_store.specs.Prelude.{number_of, match_holds, is_get, path_of, etag_of, Answer, Change}
-use Rattle.coap_store.specs.Prelude.{Nothing, Put, Delete, put_of, etag_at, is_among}
-use Rattle.coap_store.specs.Prelude.{get_answer, method_answer, resource_answer, answer_at, removes_watch}
-use Rattle.coap_store.specs.Prelude.{with_observe_rule}
-use Rattle.coap_store.specs.Prelude.{answer_of, changed, plain_get, IsStoredCode, ReportsState, ReportsEtag}
-use Rattle.coap_store.specs.Prelude.{IsElsewhere, if◌then◌else◌}
-use Rattle.coap_store.specs.Prelude.{content_of, put_by, each_at, ResourceKind, Async, Listing, Dynamic, is_async}
-use Rattle.coap_store.specs.Prelude.{same_bytes, list_any, IsStore}
+use Rattle.coap_store.specs.Prelude.{◌==◌, AllByRecursion, kind_of, is_recognised, checked_given, first_critical_in}
+use Rattle.coap_store.specs.Prelude.{recognised_in, Message, CoapOption, Path, is_path, written_length, Representation}
+use Rattle.coap_store.specs.Prelude.{StoreValue, found_in, kind_of_path, key_for, state_at, state_of, values_of}
+use Rattle.coap_store.specs.Prelude.{value_of, has_option, number_of, match_holds, is_get, path_of, etag_of, Answer}
+use Rattle.coap_store.specs.Prelude.{Change, Nothing, Put, Delete, put_of, etag_at, is_among, get_answer, method_answer}
+use Rattle.coap_store.specs.Prelude.{resource_answer, answer_at, with_observe_rule, answer_of, changed, plain_get}
+use Rattle.coap_store.specs.Prelude.{IsStoredCode, ReportsState, ReportsEtag, IsElsewhere, if◌then◌else◌, content_of}
+use Rattle.coap_store.specs.Prelude.{put_by, each_at, ResourceKind, Async, Listing, Dynamic, is_async, same_bytes}
+use Rattle.coap_store.specs.Prelude.{list_any, IsStore}
 use lib.Pointwise.{bytes_decides}
 use Rattle.std.specs.Prelude.{Contains}
 use Rattle.std.proofs.lemmas.Bool.{leb-true, le-leb, both_ways, or_parts}
@@ -21,14 +18,11 @@ use Rattle.std.proofs.lemmas.Map.Views.{Contains-from_any}
 use Rattle.coap_wire.specs.Codes as code
 use Rattle.coap_wire.specs.OptionNumbers as numbers
 use Rattle.coap_path.proofs.PathLemmas.{path_fits}
-use Rattle.coap_store.proofs.AnswerLaws.{is_error, answer_holds}
-use Rattle.coap_store.proofs.AnswerLaws.{key_is}
-use Rattle.coap_store.proofs.StateLemmas.{state_stored}
-use Rattle.coap_store.proofs.ChangeLaws.{other_is_kept_on_put, other_is_kept_on_delete, put_is_stored}
-use Rattle.coap_store.proofs.ChangeLaws.{deleted_is_gone}
+use Rattle.coap_store.proofs.AnswerLaws.{is_error, answer_holds, key_is}
+use Rattle.coap_store.proofs.StateLemmas.{state_stored, state_put, state_removed}
+use Rattle.coap_store.proofs.ChangeLaws.{other_is_kept_on_put, other_is_kept_on_delete, put_is_stored, deleted_is_gone}
 use Rattle.coap_store.proofs.StoreLemmas.{found_kept}
 use Rattle.coap_store.proofs.ConditionLaws.{delete_succeeds}
-use Rattle.coap_store.proofs.StateLemmas.{state_put, state_removed}
 
 -- ---- a GET changes nothing
 
@@ -82,9 +76,7 @@ HaveOther values etag = AllByRecursion (λ value. value ≢ etag) values
 all_other : (values : List (List ℕ)) (etag : List ℕ) → list_any (λ value. same_bytes value etag) values ≡ false
     → HaveOther values etag
 all_other [] etag none = tt
-all_other (v ∷ vs) etag none =
-    let parts = or_parts (same_bytes v etag) _ none in
-    ((λ same. both_ways _ parts.0 ((bytes_decides v etag).1 same)), all_other vs etag parts.1)
+all_other (v ∷ vs) etag none = grind (arith, or_parts, both_ways, bytes_decides, all_other vs etag)
 
 none_is : (place : ResourceKind) (r : Representation) (values : List (List ℕ)) (etag : List ℕ)
     → is_among (etag_at place r) values ≡ false → etag_at place r ≡ Some etag → HaveOther values etag
@@ -214,22 +206,17 @@ pub stored_is_served : (s : StoreValue) (now : ℕ) (token : List ℕ) (path : P
     → is_path path ≡ true → kind_of_path path ≡ Dynamic → found_in s.resources path ≡ Some r
     → (answer_of s now (plain_get token path)).response ≡ content_of r
 unfolding answer_of answer_at resource_answer method_answer match_holds get_answer
-stored_is_served s now token path r is place found =
-    let g = plain_get token path in
-    let short : HaveShortSegments path = short_within path (path_fits path is) in
-    response_finally (removes_watch g) (answer_at s (target_of s now (path_of g)) g)
-    ∙ rw (
-      critical_plain [] path short,
-      absent_plain token path numbers.proxy_uri short refl,
-      absent_plain token path numbers.proxy_scheme short refl,
-      values_plain token path numbers.uri_path short,
-      state_stored s now path is place ∙ found,
-      place,
-      absent_plain token path numbers.if_match short refl,
-      absent_plain token path numbers.if_none_match short refl,
-      no_number_plain token path numbers.accept short refl,
-      values_plain token path numbers.etag short,
-    ) refl
+stored_is_served s now token path r is place found = grind (
+  arith,
+  short_within,
+  path_fits,
+  response_finally,
+  critical_plain,
+  absent_plain,
+  values_plain,
+  state_stored,
+  no_number_plain,
+)
 
 -- ---- the representation that a request stores is returned
 
@@ -257,8 +244,7 @@ put_is_served s now later m token said =
     let stores = stores_of s now m said in
     let after = changed s (answer_of s now m).change in
     let found : found_in after.resources (path_of m) ≡ Some (put_by m (s.versions + 1)) =
-    ap (λ (c : Change). found_in (changed s c).resources (path_of m)) stores.change
-    ∙ put_is_stored s (path_of m) (number_of numbers.content_format m) m.payload in
+    grind (arith, put_is_stored) in
     stored_is_served after later token (path_of m) (put_by m (s.versions + 1)) stores.is stores.place found
 
 pub ruleset responses_report_state_steps = (content_reports, valid_reports, content_is_new)

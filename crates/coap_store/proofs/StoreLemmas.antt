@@ -1,11 +1,11 @@
 -- Each change keeps the invariant of a store, and stored resources satisfy it.
-use Rattle.std.proofs.Common.{◌≡◌, ◌≢◌, ℕ, ◌+◌, ◌<◌, ◌≤◌, ◌^◌, true, ◌||◌, List, [], ◌∷◌, length, Option, Some}
-use Rattle.std.proofs.Common.{None, refl, sym, arith, nat_lt, rules}
-use Rattle.coap_store.specs.Prelude.{IfSome, option_map, Bor, AllByRecursion, Path, same_path}
-use Rattle.coap_store.specs.Prelude.{Representation, StoreValue, found_in, put_at, removed_at, put_in, removed_in}
-use Rattle.coap_store.specs.Prelude.{listing, representation, Change, Nothing, Put, Delete, changed, TakesPut}
-use Rattle.coap_store.specs.Prelude.{TakesChange, is_path, HasSmallFormat, HaveOwnVersions, IsKept, IsStore}
-use Rattle.coap_store.specs.Prelude.{ApplicationsValue, first_bytes}
+use Rattle.std.proofs.Common.{◌≡◌, ◌≢◌, ℕ, ◌+◌, ◌<◌, ◌≤◌, ◌^◌, true, ◌||◌, List, [], ◌∷◌, length, Option, Some, None}
+use Rattle.std.proofs.Common.{refl, sym, arith, nat_lt, rules}
+use Rattle.coap_store.specs.Prelude.{IfSome, option_map, Bor, AllByRecursion, Path, same_path, Representation}
+use Rattle.coap_store.specs.Prelude.{StoreValue, found_in, put_at, removed_at, put_in, removed_in, listing}
+use Rattle.coap_store.specs.Prelude.{representation, Change, Nothing, Put, Delete, changed, TakesPut, TakesChange}
+use Rattle.coap_store.specs.Prelude.{is_path, HasSmallFormat, HaveOwnVersions, IsKept, IsStore, ApplicationsValue}
+use Rattle.coap_store.specs.Prelude.{first_bytes}
 use Rattle.std.specs.Option.{is_some}
 use Rattle.std.proofs.lemmas.Bool.{cond_both}
 use Rattle.std.proofs.lemmas.Bool.Decides.{nat_tests}
@@ -13,12 +13,11 @@ use Rattle.std.proofs.lemmas.Option.{same_Some}
 use Rattle.coap_store.specs.Store.{Resource}
 use Rattle.coap_store.specs.declared.resource.Resource as lent
 use Rattle.coap_path.proofs.PathLemmas.{same_path_sound}
-use Rattle.coap_store.proofs.ListingLemmas.{CanBeListed, listing_bound}
+use Rattle.coap_store.proofs.ListingLemmas.{listing_bound}
 use Rattle.coap_store.proofs.AnswerLaws.{either}
 use Rattle.coap_store.proofs.ChangeLaws.{put_distinct, removed_distinct}
 use Rattle.coap_store.proofs.LinkLemmas.{entry_short}
-use Rattle.coap_store.proofs.CatalogueLemmas.{place_within, put_by_index}
-use Rattle.coap_store.proofs.CatalogueLemmas.{removed_by_index}
+use Rattle.coap_store.proofs.CatalogueLemmas.{place_within, put_by_index, removed_by_index}
 
 -- ---- each resource
 
@@ -62,18 +61,12 @@ put_own : (rs : List Resource) (path : Path) (now : Representation) → AllByRec
     → HaveOwnVersions rs → HaveOwnVersions (put_at rs path now)
 unfolding put_at
 put_own [] path now fresh own = (tt, tt)
-put_own (r ∷ rs) path now fresh own =
-    cond_both (same_path path r.path) _ _ HaveOwnVersions (λ _. (fresh.1, own.1)) (λ _. (
-      put_all (HasOther r.now.version) rs path now own.0 (λ e. fresh.0 (sym e)),
-      put_own rs path now fresh.1 own.1,
-    ))
+put_own (r ∷ rs) path now fresh own = grind (arith, cond_both, put_all, put_own rs path now fresh.1 own.1)
 
 removed_own : (rs : List Resource) (path : Path) → HaveOwnVersions rs → HaveOwnVersions (removed_at rs path)
 unfolding removed_at
 removed_own [] path own = own
-removed_own (r ∷ rs) path own =
-    cond_both (same_path path r.path) _ _ HaveOwnVersions (λ _. own.1)
-    (λ _. (removed_all (HasOther r.now.version) rs path own.0, removed_own rs path own.1))
+removed_own (r ∷ rs) path own = grind (arith, cond_both, removed_all, removed_own rs path own.1)
 
 -- Two representations with the same version are the same.
 pub one_version : (rs : List Resource) (p q : Path) (a b : Representation) → HaveOwnVersions rs → found_in rs p ≡ Some a
@@ -120,38 +113,10 @@ removed_few (r ∷ rs) path = grind (arith, removed_few rs path)
 pub store_put : (s : StoreValue) (path : Path) (format : Option ℕ) (bytes : List ℕ) → IsStore s → TakesPut s path bytes
     → IfSome format (λ f. f < 65536) → IsStore (put_in s path format bytes)
 store_put s path format bytes is takes short =
-    let now : Representation = record { version = s.versions + 1; format = format; bytes = bytes } in
-    let kept = all_resources_to (IsKept s.versions s.rep_max) (IsKept (s.versions + 1) s.rep_max)
-    (λ r is. let less = is.given in search (rules, arith)) s.resources is.kept in
-    let fresh = all_resources_to (IsKept s.versions s.rep_max) (HasOther (s.versions + 1))
-    (λ r is e. omega (arith, is.given)) s.resources is.kept in
-    record {
-      paths = put_distinct s.resources path now is.paths;
-      own_versions = put_own s.resources path now fresh is.own_versions;
-      kept = put_all (IsKept (s.versions + 1) s.rep_max) s.resources path now kept (record {
-        path = takes.path_ok;
-        place = takes.place;
-        numbered = omega arith;
-        given = omega arith;
-        format = short;
-        small = takes.small;
-      });
-      few = put_few s.resources path now s.dynamic_max takes.room is.few;
-      most = is.most;
-      largest = is.largest;
-      versions = takes.version_left;
-    }
+    grind (arith, all_resources_to, put_distinct, put_own, put_all, put_few, takes.room)
 
 pub store_removed : (s : StoreValue) (path : Path) → IsStore s → IsStore (removed_in s path)
-store_removed s path is = record {
-  paths = removed_distinct s.resources path is.paths;
-  own_versions = removed_own s.resources path is.own_versions;
-  kept = removed_all (IsKept s.versions s.rep_max) s.resources path is.kept;
-  few = omega (arith, removed_few s.resources path, is.few);
-  most = is.most;
-  largest = is.largest;
-  versions = is.versions;
-}
+store_removed s path is = grind (arith, removed_distinct, removed_own, removed_all, removed_few)
 
 pub store_changed : (s : StoreValue) (c : Change) → IsStore s → TakesChange s c
     → HasSmallFormat c → IsStore (changed s c)
@@ -198,10 +163,7 @@ lent_small s path (Some r) is same = stored_small s is path (representation r.no
 -- The listing of a store whose application has a short text.
 pub listing_short : (s : StoreValue) (applications : Option ApplicationsValue) → IsStore s
     → length (first_bytes applications) ≤ 16423 → length (listing applications s.resources) ≤ 1048576
-listing_short s applications is short =
-    listing_bound applications s.resources
-    (all_resources_to (IsKept s.versions s.rep_max) CanBeListed (λ r is. (is.path, is.format)) s.resources is.kept)
-    (omega (arith, is.few, is.most)) short
+listing_short s applications is short = grind (arith, listing_bound, all_resources_to)
 
 pub bare_listing_short : (s : StoreValue) → IsStore s → length (listing None s.resources) ≤ 1048576
 unfolding first_bytes

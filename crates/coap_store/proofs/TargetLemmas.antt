@@ -1,10 +1,9 @@
 -- The target of a request.
 use Rattle.std.proofs.Common.{◌≡◌, ◌≢◌, ℕ, true, false, [], Option, Some, None, refl, sym, ap, ◌∙◌, arith}
 use Rattle.std.proofs.lemmas.Bool.{false_from_ne_true, true_from_ne_false, both_ways}
-use Rattle.coap_store.specs.Prelude.{if◌then◌else◌, Path, same_path, is_path, Representation, StoreValue}
-use Rattle.coap_store.specs.Prelude.{found_in, key_for, kind_of_path, root_path, time_path, async_path, listing_path}
-use Rattle.coap_store.specs.Prelude.{is_dynamic, state_at, RequestTarget, target_of, ResourceKind}
-use Rattle.coap_store.specs.Prelude.{Dynamic}
+use Rattle.coap_store.specs.Prelude.{if◌then◌else◌, Path, same_path, is_path, Representation, StoreValue, found_in}
+use Rattle.coap_store.specs.Prelude.{key_for, kind_of_path, root_path, time_path, async_path, listing_path, is_dynamic}
+use Rattle.coap_store.specs.Prelude.{state_at, RequestTarget, target_of, ResourceKind, Dynamic}
 use Rattle.coap_path.proofs.PathLemmas.{same_path_sound}
 use Rattle.coap_store.proofs.AnswerLaws.{key_is}
 use Rattle.coap_store.proofs.StateLemmas.{own_key}
@@ -41,14 +40,7 @@ is_listing = refl
 
 pub no_key_elsewhere : (path : Path) → None ≡ key_for path → Dynamic ≡ kind_of_path path
 unfolding kind_of_path
-no_key_elsewhere path e =
-    let none = no_key path e in
-    rw (
-      not_same path root_path none is_root,
-      not_same path time_path none is_time,
-      not_same path async_path none is_async,
-      not_same path listing_path none is_listing,
-    )
+no_key_elsewhere path e = grind (arith, no_key, not_same, is_root, is_time, is_async, is_listing)
 
 -- ---- the presence of a key
 
@@ -60,9 +52,7 @@ unfolding key_for
 without_key path none = ap (λ b. if b then Some path else None) none
 
 pub is_path_by_place : (path : Path) → is_dynamic (kind_of_path path) ≡ false → is_path path ≡ true
-is_path_by_place path built =
-    true_from_ne_false (is_path path) (λ none. both_ways (is_dynamic (kind_of_path path)) built
-    (sym (ap is_dynamic (no_key_elsewhere path (sym (without_key path none))))))
+is_path_by_place path built = grind (arith, true_from_ne_false, both_ways, no_key_elsewhere, without_key)
 
 -- The root is a built-in resource.
 pub dynamic_is_named : (path : Path) → kind_of_path path ≡ Dynamic → path ≢ []
@@ -85,9 +75,7 @@ built_state s now _ key built = refl
 pub built_target : (s : StoreValue) (now : ℕ) (path : Path) (place : ResourceKind) (state : Option Representation)
     → place ≡ kind_of_path path → is_dynamic place ≡ false → state ≡ state_at s now None place
     → target_with (Some path) place state ≡ target_of s now path
-built_target s now path place state is built found =
-    let key = own_key path (is_path_by_place path (sym (ap is_dynamic is) ∙ built)) in
-    rw (key, ← is, found, built_state s now place (Some path) built)
+built_target s now path place state is built found = grind (arith, own_key, is_path_by_place, built_state)
 
 pub stored_target : (s : StoreValue) (now : ℕ) (path p : Path) (state : Option Representation) → Some p ≡ key_for path
     → kind_of_path path ≡ Dynamic → state ≡ found_in s.resources p

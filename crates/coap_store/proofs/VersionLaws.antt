@@ -1,11 +1,10 @@
 -- No version is given twice, over all changes.
-use Rattle.std.proofs.Common.{◌≡◌, ◌≢◌, ◌⊎◌, inl, inr, ℕ, ◌<◌, ◌≤◌, ◌^◌, List, [], ◌∷◌, Option, Some}
-use Rattle.std.proofs.Common.{sym, ap, ◌∙◌, arith}
+use Rattle.std.proofs.Common.{◌≡◌, ◌≢◌, ◌⊎◌, inl, inr, ℕ, ◌<◌, ◌≤◌, ◌^◌, List, [], ◌∷◌, Option, Some, sym, ap, ◌∙◌}
+use Rattle.std.proofs.Common.{arith}
 use Rattle.std.proofs.lemmas.Option.{same_Some, none-some}
 use Rattle.coap_wire.proofs.UintLaws.{bytes_are_one}
 use Rattle.coap_store.specs.Prelude.{Path, same_path, Representation, StoreValue, found_in, etag_of, Change, Nothing}
-use Rattle.coap_store.specs.Prelude.{Put, Delete, changed, TakesChange, changed_by, TakesChanges, AreDistinct}
-use Rattle.coap_store.specs.Prelude.{IsStore}
+use Rattle.coap_store.specs.Prelude.{Put, Delete, changed, TakesChange, changed_by, TakesChanges, AreDistinct, IsStore}
 use Rattle.coap_path.proofs.PathLemmas.{same_path_sound}
 use Rattle.coap_store.proofs.AnswerLaws.{either}
 use Rattle.coap_store.proofs.StoreLemmas.{one_version, found_kept}
@@ -27,9 +26,7 @@ stored_version_fits s path r is found =
 
 pub together : (s : StoreValue) (p q : Path) (a b : Representation) → IsStore s → found_in s.resources p ≡ Some a
     → found_in s.resources q ≡ Some b → etag_of a ≡ etag_of b → (p ≡ q) × (a ≡ b)
-together s p q a b is at_p at_q same =
-    one_version s.resources p q a b is.own_versions at_p at_q
-    (etag_decides a b (stored_version_fits s p a is at_p) (stored_version_fits s q b is at_q) same)
+together s p q a b is at_p at_q same = grind (arith, one_version, is.own_versions, etag_decides, stored_version_fits)
 
 -- ---- over changes
 
@@ -77,9 +74,7 @@ change_later s t (Put path format bytes) so takes =
 change_later s t (Delete path) so takes =
     let n : StoreValue = changed t (Delete path) in
     let old : (q : Path) (b : Representation) → found_in n.resources q ≡ Some b → found_in t.resources q ≡ Some b =
-    λ q b found. by_path q path
-    (λ is. absurd (none-some b (sym (deleted_is_gone t path so.distinct) ∙ rw is at found)))
-    (λ apart. sym (other_is_kept_on_delete t path q apart) ∙ found) in
+    λ q b found. grind (arith, by_path, none-some, deleted_is_gone, other_is_kept_on_delete) in
     record {
       distinct = distinct_stays t (Delete path) so.distinct;
       fits = so.fits;
@@ -97,14 +92,16 @@ changes_later s t (c ∷ cs) so takes = changes_later s (changed t c) cs (change
 pub later : (s : StoreValue) (cs : List Change) (p q : Path) (a b : Representation) → IsStore s → TakesChanges s cs
     → found_in s.resources p ≡ Some a → found_in (changed_by s cs).resources q ≡ Some b
     → etag_of a ≡ etag_of b → (p ≡ q) × (a ≡ b)
-later s cs p q a b is takes at_p at_q same =
-    let so = changes_later s s cs (later_than_itself s is) takes in
-    let versions : a.version ≡ b.version =
-    etag_decides a b (stored_version_fits s p a is at_p) (omega (arith, so.given q b at_q, so.fits)) same in
-    elim (so.stays q b at_q) [
-      | inl newer ↦ absurd (omega (arith, newer, versions, (found_kept s p a is at_p).given))
-      | inr before ↦ one_version s.resources p q a b is.own_versions at_p before versions
-    ]
+later s cs p q a b is takes at_p at_q same = grind (
+  arith,
+  changes_later,
+  later_than_itself,
+  etag_decides,
+  stored_version_fits,
+  found_kept,
+  one_version,
+  is.own_versions,
+)
 
 -- A new representation has a larger version than each stored one.
 pub newer : (s : StoreValue) (path other : Path) (format : Option ℕ) (bytes : List ℕ) (old new : Representation)

@@ -1,11 +1,9 @@
 -- Properties of requests that register an observer.
-use Rattle.std.proofs.Common.{◌≡◌, inl, inr, ℕ, ◌&&◌, true, false, Option, Some, None, refl, ap, ◌∙◌, arith, rules}
-use Rattle.coap_store.specs.Prelude.{◌⊎◌, Message, Path, is_path, Representation}
-use Rattle.coap_store.specs.Prelude.{StoreValue, time_path, is_observable, kind_of_path, key_for, state_at}
-use Rattle.coap_store.specs.Prelude.{state_of, path_of, Answer, Response, watch_of}
-use Rattle.coap_store.specs.Prelude.{watched, stored_under, answer_of}
-use Rattle.coap_store.specs.Prelude.{immediate_answer, MayObserve, ResourceKind, Time, Async, Dynamic, is_get}
-use Rattle.coap_store.specs.Prelude.{number_of, removes_watch, is_async}
+use Rattle.std.proofs.Common.{◌≡◌, inl, inr, ℕ, true, false, Option, Some, None, refl, ap, ◌∙◌, arith, rules}
+use Rattle.coap_store.specs.Prelude.{◌⊎◌, Message, Path, is_path, Representation, StoreValue, time_path, is_observable}
+use Rattle.coap_store.specs.Prelude.{kind_of_path, key_for, state_at, state_of, path_of, Answer, Response, watch_of}
+use Rattle.coap_store.specs.Prelude.{watched, stored_under, answer_of, immediate_answer, MayObserve, ResourceKind, Time}
+use Rattle.coap_store.specs.Prelude.{Async, Dynamic, is_get, number_of, removes_watch, is_async}
 use Rattle.coap_store.specs.Answer.{is_number}
 use Rattle.std.proofs.lemmas.Bool.{cond-true, and_parts, and_right, both_ways, eqb-true}
 use Rattle.coap_wire.specs.Codes as code
@@ -55,19 +53,7 @@ WatchesWell s now path a = a.watch ≡ watch.Add → IsWatched s now path a
 watches : (s : StoreValue) (now : ℕ) (path : Path) (m : Message) (representation : Representation) (r : Response)
     → state_of s now path ≡ Some representation → (r.code ≡ code.content) ⊎ (r.code ≡ code.valid)
     → WatchesWell s now path (watched (kind_of_path path) m r)
-watches s now path m representation r there is e =
-    let placed = watched_place (kind_of_path path) m e in
-    record {
-      at_once = refl;
-      may = record {
-        representation = representation;
-        there = there;
-        key = observed_key s now path (kind_of_path path) _ representation refl placed refl there;
-        observable = placed;
-        quiet = refl;
-        code = is;
-      };
-    }
+watches s now path m representation r there is e = grind (arith, watched_place, observed_key)
 
 pub stored_unwatched : (key : Option Path) (state : Option Representation) (m : Message)
     → (stored_under key state m).watch ≡ watch.Nothing
@@ -91,9 +77,7 @@ watched_is_there s now m e = (watched_of s now m e).may
 pub promptly_watched_is_there : (s : StoreValue) (now : ℕ) (m : Message) → (immediate_answer s now m).watch ≡ watch.Add
     → MayObserve s now (path_of m) (immediate_answer s now m)
 unfolding immediate_answer
-promptly_watched_is_there s now m =
-    prompt_holds (λ a. a.watch ≡ watch.Add → MayObserve s now (path_of m) a) (answer_of s now m)
-    (watched_is_there s now m) (λ seconds late e. (let at_once = watched_at_once s now m e in absurd cc))
+promptly_watched_is_there s now m = grind (arith, prompt_holds, watched_is_there, watched_at_once)
 
 -- ---- the requests that register an observer
 
@@ -103,9 +87,7 @@ is_zero (Some n) e = ap Some (eqb-true n 0 e)
 
 watched_request : (place : ResourceKind) (m : Message) → watch_of place m ≡ watch.Add
     → number_of numbers.observe m ≡ Some 0
-watched_request place m e =
-    either (is_observable place && is_number (number_of numbers.observe m) 0)
-    (λ both. is_zero (number_of numbers.observe m) (and_parts _ _ both).1) (λ none. (let n = rw none at e in absurd cc))
+watched_request place m e = grind (arith, either, is_zero, and_parts)
 
 pub requested_watch : (s : StoreValue) (now : ℕ) (m : Message) → (answer_of s now m).watch ≡ watch.Add
     → (is_get m ≡ true) × (number_of numbers.observe m ≡ Some 0)

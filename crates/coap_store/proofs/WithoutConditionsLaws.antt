@@ -1,19 +1,18 @@
 -- A request and the same request without its conditions.
-use Rattle.std.proofs.Common.{◌≡◌, ℕ, Bool, true, false, ◌&&◌, ◌||◌, ◌==◌, cond, not, List, [], ◌∷◌, ◌++◌}
-use Rattle.std.proofs.Common.{map, filter, Option, Some, None, refl, sym, ap, ◌∙◌, arith}
+use Rattle.std.proofs.Common.{◌≡◌, ℕ, Bool, true, false, ◌&&◌, ◌||◌, ◌==◌, cond, not, List, [], ◌∷◌, ◌++◌, map, filter}
+use Rattle.std.proofs.Common.{Option, Some, None, refl, ap, ◌∙◌, arith}
 use Rattle.std.proofs.lemmas.Bool.{and_right, cond-false, false_from_ne_true, true_from_ne_false, leb-true}
 use Rattle.std.proofs.lemmas.List.{append-nil}
 use Rattle.std.proofs.lemmas.Option.{none-some}
 use Rattle.std.proofs.lemmas.Bool.Decides.{nat_tests}
 use Rattle.std.proofs.lemmas.List.Elements.{filter-append}
 use Rattle.coap_wire.specs.Recognition.{is_first_with_number, has_kind}
-use Rattle.coap_store.specs.Prelude.{is_recognised, checked_given, recognised_in, first_critical_in}
-use Rattle.coap_store.specs.Prelude.{CoapOption, Message, OptionKind, kind_of, values_of, has_option}
-use Rattle.coap_store.specs.Prelude.{is_condition, without_conditions, is_critical, first_critical, StoreValue}
-use Rattle.coap_store.specs.Prelude.{RequestTarget, preconditions_hold, match_holds, number_of, value_of, answer_at}
-use Rattle.coap_store.specs.Prelude.{ResourceKind, Representation, Path, read_answer, stored_under}
-use Rattle.coap_store.specs.Prelude.{resource_answer, method_answer, get_answer, store_answer, says, only}
-use Rattle.coap_store.specs.Prelude.{answer_of, removes_watch, state_of, target_of, path_of, FailsCondition}
+use Rattle.coap_store.specs.Prelude.{is_recognised, checked_given, recognised_in, first_critical_in, CoapOption}
+use Rattle.coap_store.specs.Prelude.{Message, OptionKind, kind_of, values_of, has_option, is_condition}
+use Rattle.coap_store.specs.Prelude.{without_conditions, is_critical, first_critical, StoreValue, RequestTarget}
+use Rattle.coap_store.specs.Prelude.{preconditions_hold, match_holds, number_of, value_of, answer_at, ResourceKind}
+use Rattle.coap_store.specs.Prelude.{Representation, Path, read_answer, stored_under, resource_answer, method_answer}
+use Rattle.coap_store.specs.Prelude.{get_answer, store_answer, says, only, answer_of, state_of, path_of, FailsCondition}
 use Rattle.coap_wire.specs.Codes as code
 use Rattle.coap_wire.specs.Codes.{class_of}
 use Rattle.coap_wire.specs.OptionNumbers as numbers
@@ -80,24 +79,33 @@ others_stay : (number : ℕ) (earlier os : List CoapOption) → is_condition_num
     → with_number number (kept earlier) (kept os) ≡ with_number number earlier os
 unfolding checked_given
 others_stay number earlier [] other = refl
-others_stay number earlier (o ∷ os) other =
-    let later = others_stay number (earlier ++ o ∷ []) os other in
-    let turn = with_number_turn number earlier o os in
-    either (is_condition o)
-    (λ goes. rw goes ((rw (kept_same earlier o goes) at later)
-    ∙ sym (turn ∙ cond-false _ _ _ (and_right _ _ (apart number o false other goes)))))
-    (λ stays. rw stays (with_number_turn number (kept earlier) o (kept os)
-    ∙ (rw (recognised_kept earlier o stays, ← kept_more earlier o stays, later) (sym turn))))
+others_stay number earlier (o ∷ os) other = grind (
+  arith,
+  with_number_turn,
+  either,
+  kept_same,
+  cond-false,
+  and_right,
+  apart,
+  recognised_kept,
+  kept_more,
+  others_stay number (earlier ++ o ∷ []) os other,
+)
 
 conditions_go : (number : ℕ) (earlier os : List CoapOption) → is_condition_number number ≡ true
     → with_number number earlier (kept os) ≡ []
 unfolding checked_given recognised_in
 conditions_go number earlier [] is = refl
-conditions_go number earlier (o ∷ os) is =
-    either (is_condition o) (λ goes. rw goes (conditions_go number earlier os is))
-    (λ stays. rw stays (with_number_turn number earlier o (kept os)
-    ∙ (cond-false _ _ _ (and_right _ _ (apart number o true is stays))
-    ∙ conditions_go number (earlier ++ o ∷ []) os is)))
+conditions_go number earlier (o ∷ os) is = grind (
+  arith,
+  either,
+  with_number_turn,
+  cond-false,
+  and_right,
+  apart,
+  conditions_go number earlier os is,
+  conditions_go number (earlier ++ o ∷ []) os is,
+)
 
 -- ---- the critical options
 
@@ -114,14 +122,17 @@ still_none : (earlier os : List CoapOption) → critical_after earlier os ≡ No
     → critical_after (kept earlier) (kept os) ≡ None
 unfolding checked_given
 still_none earlier [] none = none
-still_none earlier (o ∷ os) none =
-    let bad = is_critical o && not (is_recognised earlier o) in
-    let turn = sym (critical_turn earlier o os) ∙ none in
-    let good : bad ≡ false = false_from_ne_true bad (λ e. none-some o.number (sym (rw e at turn))) in
-    let later = still_none (earlier ++ o ∷ []) os (rw good at turn) in
-    either (is_condition o) (λ goes. rw goes (rw (kept_same earlier o goes) at later))
-    (λ stays. rw stays (critical_turn (kept earlier) o (kept os)
-    ∙ rw (recognised_kept earlier o stays, good, ← kept_more earlier o stays) later))
+still_none earlier (o ∷ os) none = grind (
+  arith,
+  critical_turn,
+  false_from_ne_true,
+  none-some,
+  either,
+  kept_same,
+  recognised_kept,
+  kept_more,
+  still_none (earlier ++ o ∷ []) os,
+)
 
 -- ---- in a request
 
@@ -140,13 +151,7 @@ no_values number m is = ap (map (λ o. o.value)) (conditions_go number [] m.opti
 same_get : (place : ResourceKind) (r : Representation) (m : Message)
     → get_answer place r (without_conditions m) ≡ get_answer place r m
 unfolding get_answer number_of value_of
-same_get place r m =
-    rw (
-      same_values numbers.accept m refl,
-      same_values numbers.etag m refl,
-      same_values numbers.uri_query m refl,
-      same_values numbers.observe m refl,
-    ) refl
+same_get place r m = grind (arith, same_values)
 
 same_read : (place : ResourceKind) (state : Option Representation) (m : Message)
     → read_answer place state (without_conditions m) ≡ read_answer place state m
@@ -185,33 +190,20 @@ pub met_conditions : (s : StoreValue) (now : ℕ) (m : Message) → first_critic
     → (FailsCondition (state_of s now (path_of m)) m → ⊥)
     → answer_of s now m ≡ answer_of s now (without_conditions m)
 unfolding answer_of number_of value_of
-met_conditions s now m good holds =
-    let t = target_of s now (path_of m) in
-    let met = true_from_ne_false _ (λ no. holds (fails_condition t.state m no)) in
-    rw (same_values numbers.uri_path m refl, same_values numbers.observe m refl, same_answer_at s t m good met) refl
+met_conditions s now m good holds = grind (arith, true_from_ne_false, fails_condition, same_values, same_answer_at)
 
 -- The answer is 4.12 if a condition fails and the request without conditions passes the other checks.
 failed_at : (s : StoreValue) (t : RequestTarget) (m : Message) → first_critical m.options ≡ None
     → preconditions_hold t.state m ≡ false → class_of (answer_at s t (without_conditions m)).response.code ≡ 2
     → answer_at s t m ≡ says (only code.precondition_failed)
 unfolding answer_at resource_answer has_option
-failed_at s t m good fails =
-    checked_cases (λ a. class_of a.response.code ≡ 2 → answer_at s t m ≡ says (only code.precondition_failed)) s t
-    (without_conditions m) (λ c large is. absurd (omega (arith, leb-true 128 c large)))
-    (λ passes is. (let proxy = rw (same_values numbers.proxy_uri m refl, same_values numbers.proxy_scheme m refl)
-    at passes.proxy in
-    rw (good, proxy, passes.method, passes.present, passes.allowed, fails) refl))
+failed_at s t m good fails = grind (arith, checked_cases, leb-true, same_values)
 
 pub failed_condition : (s : StoreValue) (now : ℕ) (m : Message) → first_critical m.options ≡ None
     → FailsCondition (state_of s now (path_of m)) m
     → class_of (answer_of s now (without_conditions m)).response.code ≡ 2
     → (answer_of s now m).response ≡ only code.precondition_failed
 unfolding answer_of
-failed_condition s now m good fails is =
-    let t = target_of s now (path_of m) in
-    let plain = without_conditions m in
-    let success = rw (response_finally (removes_watch plain), same_values numbers.uri_path m refl) at is in
-    response_finally (removes_watch m) (answer_at s t m)
-    ∙ ap (λ a. a.response) (failed_at s t m good (conditions_fail t.state m fails) success)
+failed_condition s now m good fails is = grind (arith, response_finally, same_values, failed_at, conditions_fail)
 
 pub ruleset condition_steps = (failed_only, met_conditions, failed_condition)

@@ -1,5 +1,6 @@
 -- Defined by this project: the model value and the invariant of the type `Plan`, which contracts see as an answer.
 use Rattle.std.specs.Prelude.{option_map}
+use Rattle.coap_wire.specs.Uint.{bytes_of_uint}
 use Rattle.coap_store.specs.Answer.{Answer}
 use Rattle.coap_store.specs.PlanViews.{bytes_in, IsTextOf, planned_value, IsAtPath, IsNamedPath, location_in}
 use Rattle.coap_store.specs.declared.plan.Plan.TheInside.{Inside}
@@ -8,7 +9,7 @@ abbrev pub plan_answer : Inside → Answer
 plan_answer p = record {
   response = record {
     code = p.code;
-    etag = option_map (λ etag. etag.items) p.etag;
+    etag = option_map bytes_of_uint p.etag;
     format = p.format;
     max_age = p.max_age;
     location = location_in p.sets_location (planned_value p.change);

@@ -1,7 +1,6 @@
 -- Names for the contracts and proofs of the crate, re-exported from one place. This file defines nothing.
 
 -- ---- std and other crates
-pub use Rattle.arrayvec.specs.declared.array_vec.ArrayVec.{ArrayVec}
 unfoldable pub use Rattle.coap_store.specs.Texts.{joined}
 pub use Rattle.coap_store.specs.Texts.{with_end}
 pub use Rattle.indexmap.specs.IndexMap.{insert_entry, set_value_at}
@@ -20,7 +19,7 @@ unfoldable pub use Rattle.percent_encoding.specs.AsciiSet.{should_percent_encode
 unfoldable pub use Rattle.percent_encoding.specs.Percent.{percent_encode, percent_encode_byte}
 -- ---- coap_wire
 pub use Rattle.coap_wire.specs.Message.{Message, CoapOption}
-pub use Rattle.coap_wire.specs.Recognition.{known_options, first_critical, has_kind, once}
+pub use Rattle.coap_wire.specs.Recognition.{known_options, first_critical, once}
 pub use Rattle.coap_wire.specs.Recognition.{CheckedOptionValue, is_critical}
 unfoldable pub use Rattle.coap_wire.specs.Recognition.{checked_given, first_critical_in, is_recognised, kind_of}
 unfoldable pub use Rattle.coap_wire.specs.Recognition.{recognised_in}
@@ -54,7 +53,7 @@ pub use Rattle.coap_store.specs.Answer.{valid}
 pub use Rattle.coap_store.specs.Answer.{watched}
 unfoldable pub use Rattle.coap_store.specs.Answer.{get_answer, answer_of, answer_at, resource_answer, store_answer}
 unfoldable pub use Rattle.coap_store.specs.Answer.{immediate_answer, method_answer}
-pub use Rattle.coap_store.specs.ApplicationRequests.{passes_checks, unless_handed}
+pub use Rattle.coap_store.specs.ApplicationRequests.{passes_checks}
 unfoldable pub use Rattle.coap_store.specs.ApplicationRequests.{application_deadline, prompt_answer}
 pub use Rattle.coap_store.specs.Changes.{TakesChange, changes, says_change, HasSmallFormat, changed_by, TakesChanges}
 pub use Rattle.coap_store.specs.Changes.{TakesPut, IsPut, IsChangeAt}

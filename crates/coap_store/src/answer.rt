@@ -10,6 +10,7 @@ ghost use Rattle.coap_store.specs.Prelude.{stored as stored_there, delete_answer
 ghost use Rattle.coap_store.specs.Prelude.{kind_of_path, target_of, state_at, answer_of, answer_at, resource_answer};
 ghost use Rattle.coap_store.specs.Prelude.{store_answer, no_answer, needs_resource as needs, TakesChange, changes};
 ghost use Rattle.coap_store.specs.Prelude.{IsStore, IsFoundAt, IsChangeAt, IfSome, only, is_dynamic, is_async};
+ghost use Rattle.coap_store.specs.Prelude.{bytes_of_uint};
 ghost use Rattle.coap_wire.specs.OptionNumbers as numbers;
 ghost use Rattle.coap_path.specs.declared.resource_kind.ResourceKind.TheVariants.{Dynamic};
 
@@ -19,9 +20,8 @@ use crate::request::ParsedRequest;
 use crate::request_options::RequestOptions;
 use crate::store::Store;
 use crate::target::{LINK_FORMAT, RequestTarget, TEXT_PLAIN};
-use arrayvec::ArrayVec;
 use coap_path::{PathKey, ResourceKind};
-use coap_wire::{Code, MessageRef, uint_bytes};
+use coap_wire::{Code, MessageRef};
 
 impl Store {
     ghost use Rattle.coap_store.specs.Prelude.{path_of};
@@ -321,7 +321,7 @@ fn get<'s, 'r>(
         return plan.content(None, found, max_age_of(place), watch_for(parsed, place));
     }
     let etag = etag_for(place, found.version);
-    if is_valid(parsed, etag.as_ref()) {
+    if is_valid(parsed, etag) {
         return plan.valid(etag, watch_for(parsed, place));
     }
     if place.is_async() && !parsed.has_good_query() {
@@ -348,23 +348,25 @@ fn is_accepted(wanted: Option<u16>, format: Option<u16>) -> bool
     wanted.is_none() || format == wanted
 }
 
-/// Returns the ETag of a representation with this version, or `None` if the resource is built in.
-pub(crate) fn etag_for(place: ResourceKind, version: u64) -> Option<ArrayVec<u8, 8>>
-    ensures { (r : Representation) → r.version ≡ version → option_map (λ etag. etag.items) result ≡ etag_at place r }
+/// Returns the number whose encoding is the ETag of a representation with this version, or `None` if the resource is
+/// built in.
+pub(crate) fn etag_for(place: ResourceKind, version: u64) -> Option<u64>
+    ensures { (r : Representation) → r.version ≡ version → option_map bytes_of_uint result ≡ etag_at place r }
 {
     if place.is_dynamic() {
-        Some(uint_bytes(version))
+        Some(version)
     } else {
         None
     }
 }
 
-/// Returns `true` if there is an ETag and the request has it (RFC 7252 section 5.10.6.2).
-fn is_valid(parsed: &ParsedRequest, etag: Option<&ArrayVec<u8, 8>>) -> bool
-    ensures { result ≡ is_one_of (option_map (λ etag. etag.now.items) etag.entry) (values_of numbers.etag parsed.now) }
+/// Returns `true` if there is an ETag and the request has it (RFC 7252 section 5.10.6.2). `etag` is the number whose
+/// encoding is the ETag.
+fn is_valid(parsed: &ParsedRequest, etag: Option<u64>) -> bool
+    ensures { result ≡ is_one_of (option_map bytes_of_uint etag) (values_of numbers.etag parsed.now) }
 {
     match etag {
-        Some(etag) => parsed.has_etag(etag.as_slice()),
+        Some(etag) => parsed.has_etag(etag),
         None => false,
     }
 }

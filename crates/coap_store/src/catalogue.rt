@@ -118,6 +118,8 @@ impl Catalogue {
 
     /// Returns the resource at a path, and its index. First compares the path of the resource with the index `near`,
     /// and searches only if it is another one.
+    // Always inlined, without the search: a comparison then costs no call.
+    #[inline(always)]
     #[tactic(auto, using(crate::proofs::CatalogueLemmas::resources_are))]
     pub(crate) fn find_near(&self, path: &PathKey, near: usize) -> Option<(usize, &Resource)>
         ensures { option_map (λ r. representation r.1.now) result ≡ found_in self.now.resources path.now }
@@ -127,6 +129,14 @@ impl Catalogue {
                 return Some((near, resource));
             }
         }
+        self.search(path)
+    }
+
+    /// Returns the resource at a path, and its index, as `find` does.
+    #[inline(never)]
+    fn search(&self, path: &PathKey) -> Option<(usize, &Resource)>
+        ensures { option_map (λ r. representation r.1.now) result ≡ found_in self.now.resources path.now }
+    {
         self.find(path)
     }
 

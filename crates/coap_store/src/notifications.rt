@@ -20,7 +20,7 @@ pub struct ObservedPath<'p> {
 }
 
 impl Store {
-    ghost use Rattle.std.specs.Prelude.{◌≡◌, ◌≤◌, length, option_map, Some};
+    ghost use Rattle.std.specs.Prelude.{◌≡◌, ◌≤◌, [], length, option_map, Some};
     ghost use Rattle.coap_store.specs.Prelude.{LARGEST_MESSAGE, says, IsStore, notification_of, no_answer};
     ghost use Rattle.coap_store.specs.Prelude.{kind_of_path, found_value, state_at};
 
@@ -67,6 +67,7 @@ impl Store {
         requires fresh { plan.old ≡ no_answer }
         ensures reported { plan.new ≡ says (notification_of self.now now observed.entry.path.now format) }
         ensures short { length plan.new.response.payload ≤ LARGEST_MESSAGE }
+        ensures located { plan.new.response.location ≡ [] }
         ensures store { IsStore self.now }
     {
         self.is_kept();

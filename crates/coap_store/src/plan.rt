@@ -3,14 +3,14 @@
 ghost use Rattle.std.specs.Prelude.{◌≡◌, ◌≢◌, ◌≤◌, true, [], Some, IfSome, length, option_map};
 ghost use Rattle.coap_store.specs.Prelude.{bytes_in, change_value, planned_value, says, only, no_answer};
 ghost use Rattle.coap_store.specs.Prelude.{changes as is_change, is_path, IsAtPath, IsNamedPath, path_or_root};
-ghost use Rattle.coap_store.specs.Prelude.{location_in};
+ghost use Rattle.coap_store.specs.Prelude.{location_in, bytes_of_uint};
 ghost use Rattle.coap_wire.specs.Codes as code;
 
 use crate::found::{Payload, PayloadText, RepresentationRef};
 use crate::request::path_in;
 use arrayvec::ArrayVec;
 use coap_path::{PathKey, UriPath};
-use coap_wire::{Body, Code};
+use coap_wire::{Body, Code, UintBytes, uint_bytes};
 use std::marker::Model;
 
 /// Change that a request makes.
@@ -73,11 +73,12 @@ pub enum Watch {
 /// fields are in the order of their sizes.
 #[derive(Drop)]
 pub struct Plan<'s, 'r> {
-    etag: Option<ArrayVec<u8, 8>>,
     payload: Payload<'s>,
     /// Text of the payload, if that is a number.
     text: PayloadText,
     change: PlannedChange<'r>,
+    /// Number whose encoding is the ETag, if there is one.
+    etag: Option<u64>,
     max_age: Option<u32>,
     size1: Option<u32>,
     /// Delay of the response in seconds, if there is one.
@@ -139,10 +140,10 @@ impl<'s, 'r> Plan<'s, 'r> {
     }
 
     /// Sets 2.03 and an ETag in a new plan, without a change (RFC 7252 section 5.9.1.3).
-    pub(crate) fn valid(&mut self, etag: Option<ArrayVec<u8, 8>>, watch: Watch)
+    pub(crate) fn valid(&mut self, etag: Option<u64>, watch: Watch)
         requires { self.old ≡ no_answer }
         ensures { self.new
-            ≡ record (says (record (only code.valid) { etag = option_map (λ e. e.items) etag })) { watch = watch } }
+            ≡ record (says (record (only code.valid) { etag = option_map bytes_of_uint etag })) { watch = watch } }
     {
         self.code = Code::VALID;
         self.etag = etag;
@@ -152,7 +153,7 @@ impl<'s, 'r> Plan<'s, 'r> {
     /// Sets 2.05 and a representation in a new plan, without a change (RFC 7252 section 5.9.1.5).
     pub(crate) fn content(
         &mut self,
-        etag: Option<ArrayVec<u8, 8>>,
+        etag: Option<u64>,
         found: RepresentationRef<'s>,
         max_age: Option<u32>,
         watch: Watch,
@@ -160,7 +161,7 @@ impl<'s, 'r> Plan<'s, 'r> {
         requires { self.old ≡ no_answer }
         ensures { self.new
             ≡ record (says (record (only code.content) {
-              etag = option_map (λ e. e.items) etag;
+              etag = option_map bytes_of_uint etag;
               format = found.entry.format;
               max_age = max_age;
               payload = bytes_in
@@ -224,12 +225,19 @@ impl<'s, 'r> Plan<'s, 'r> {
     }
 
     /// Returns the value of the ETag, at most 8 bytes, if there is one (RFC 7252 section 5.10.6).
-    pub fn etag(&self) -> Option<&[u8]>
-        ensures value { option_map (λ etag. etag.now) result ≡ self.now.response.etag }
-        ensures short { IfSome result (λ etag. length etag.now ≤ 8) }
+    pub fn etag(&self) -> Option<UintBytes>
+        ensures value { option_map (λ etag. etag.items) result ≡ self.now.response.etag }
+        ensures short { IfSome result (λ etag. length etag.items ≤ 8) }
     {
-        let etag = self.etag.as_ref()?;
-        Some(etag.as_slice())
+        let number = self.etag?;
+        Some(uint_bytes(number))
+    }
+
+    /// Returns the number whose shortest encoding is the ETag, if there is one.
+    pub fn etag_number(&self) -> Option<u64>
+        ensures { option_map bytes_of_uint result ≡ self.now.response.etag }
+    {
+        self.etag
     }
 
     /// Returns the Content-Format, if there is one (RFC 7252 section 5.10.3).

@@ -4,7 +4,7 @@
 ghost use Rattle.std.specs.Prelude.{◌≡◌, ◌≤◌, true, Option, length, is_some, IfSome, ◌||◌, option_map};
 ghost use Rattle.coap_store.specs.Prelude.{uint_of, known_options, is_path, digits_mean, path_of as path_of_request};
 ghost use Rattle.coap_store.specs.Prelude.{body_path, nothing, all_noted, options_value, first_critical, list_any};
-ghost use Rattle.coap_store.specs.Prelude.{same_bytes, Representation, kind_of_path};
+ghost use Rattle.coap_store.specs.Prelude.{same_bytes, bytes_of_uint, Representation, kind_of_path};
 ghost use Rattle.coap_store.specs.Requests as spec;
 ghost use Rattle.coap_wire.specs.OptionNumbers as numbers;
 
@@ -226,17 +226,17 @@ impl<'q, 'r> ParsedRequest<'q, 'r> {
         !(is_present && self.known.has_if_none_match)
     }
 
-    /// Returns `true` if the request has this ETag (RFC 7252 section 5.10.6.2).
+    /// Returns `true` if the request has an ETag that encodes this number (RFC 7252 section 5.10.6.2).
     #[tactic(auto, using(crate::proofs::RequestLemmas::value_passes, crate::proofs::RequestLemmas::none_passes))]
-    pub(crate) fn has_etag(&self, etag: &[u8]) -> bool
-        ensures { result ≡ list_any (λ value. same_bytes value etag.now) (spec.values_of numbers.etag self.now) }
+    pub(crate) fn has_etag(&self, number: u64) -> bool
+        ensures { result
+            ≡ list_any (λ value. same_bytes value (bytes_of_uint number)) (spec.values_of numbers.etag self.now) }
     {
         if !self.known.has_etag {
             return false;
         }
-        self.request
-            .known()
-            .any(|option| option.number == ETAG && option.value == etag)
+        let etag = uint_bytes(number);
+        self.request.known().any(|option| option.number == ETAG && option.value == etag.as_slice())
     }
 }
 

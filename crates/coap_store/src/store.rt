@@ -237,6 +237,8 @@ impl Store {
     }
 
     /// Returns the same as `find_place`. Needs no search if the index is `near`.
+    // Always inlined, as `Catalogue::find_near`.
+    #[inline(always)]
     pub(crate) fn find_near(&self, path: &PathKey, near: usize) -> Option<(usize, &Resource)>
         ensures { option_map (λ r. representation r.1.now) result ≡ found_in self.now.resources path.now }
     {

@@ -231,8 +231,9 @@ impl Link {
         }
     }
 
-    /// Queues a 5.01 response to a request. (A separate function: a function clears all its locals, so these would slow
-    /// down its caller.)
+    /// Queues a 5.01 response to a request.
+    // Always inlined, as `abort`.
+    #[inline(always)]
     fn refuse<'m>(&mut self, message: &MessageRef<'m>) -> Verdict<'m>
         requires { IsReady self.old }
         ensures verdict { verdict_value result

@@ -240,6 +240,8 @@ impl Link {
 
     /// Queues the Abort for the reason, if it has one, without its text if only that fits the peer's limit. Then stops
     /// the connection.
+    // Always inlined: the verdict of each message is then in registers, since no call writes one to memory.
+    #[inline(always)]
     pub(super) fn abort(&mut self, reason: Reason) -> Verdict<'static>
         requires { IsReady self.old }
         ensures verdict { verdict_value result ≡ verdict.Stopped reason }

@@ -4,6 +4,7 @@ use Rattle.coap_server_session.specs.Prelude.{ObserverValue, ObserversValue, Sto
 use Rattle.coap_server_session.specs.Prelude.{AreMarked, changed_mark, new_entry, is_whole, with_entry, Engine}
 use Rattle.coap_server_session.specs.Prelude.{asks_entry, Delay, delay_on}
 use Rattle.coap_store.specs.Answer.{Answer}
+use Rattle.coap_store.proofs.AnswerLaws.{located_of}
 use Rattle.coap_io.proofs.streams.WriteLemmas.{on_any_fault}
 use Rattle.coap_server_session.proofs.values.AnsweringLemmas.{IsAnswered, may_watch, late_answered, prompt_is}
 use Rattle.coap_server_session.proofs.values.AnsweringLemmas.{change_answered, prompt_answered}
@@ -37,6 +38,12 @@ add_observer-requires-clause-watched c =
           (cc (prompt.1, c.watch.ensures, c.asks_entry.ensures, w.if-asks_entry.true))
       | else-asks_entry w ↦ absurd (let bad : ◌≡◌ {A = Bool} false true = cc (w.if-asks_entry.false) in cc)
     ]
+
+pub respond-reply-requires-clause-located : goal.respond-reply-requires-clause-located
+respond-reply-requires-clause-located c =
+    let answer = c.fill_plan-index.ensures.answer in
+    ap (λ (a : Answer). a.response.location) answer
+    ∙ located_of _ _ _ (rw answer at (sym c.changes.ensures ∙ c.if-changes.false))
 
 -- The request changes nothing: its response is sent, and the entries after it are the defined ones.
 prompted : (c : After-respond-reply) (enters : Bool) (p : ObserversValue)

@@ -11,7 +11,7 @@ returns-then-eq-clause-listed c =
     let found = entry_of entries c.args.index c.format_at-old.result c.format_at-old.ensures in
     let same = sym found.2 ∙ equal_format _ _ (sym c.eq.ensures ∙ c.if-eq.true) in
     c.requires.listed
-    ∙ sym (texts_kept (head_of c.args.listing.now) entries c.args.index found.0 c.args.resource found.1 same)
+    ∙ sym (grind (arith, texts_kept, c.args.index, c.args.resource))
     ∙ ap (λ es. texts_of (head_of c.args.listing.now) (resources_in es)) (sym c.write_at.ensures)
 
 pub replace_end-requires-clause-within : goal.replace_end-requires-clause-within

@@ -1,4 +1,4 @@
-use Rattle.std.proofs.Common.{sym, ap, subst, ◌∙◌}
+use Rattle.std.proofs.Common.{sym, subst, arith}
 use Rattle.coap_store.specs.Catalogues.{CatalogueValue}
 use Rattle.coap_store.specs.Prelude.{IsFoundAt}
 use Rattle.coap_store.proofs.CatalogueLemmas.{found_place, place_within, removed_by_index}
@@ -10,8 +10,12 @@ remove_at-requires c =
     c.self.view_is (found_place c.self.inside.resources.entries c.args.path.now _ (sym c.in-Some.ensures.index)))
 
 pub returns-in-Some : goal.returns-in-Some
-returns-in-Some c =
-    let found = subst (λ (k : CatalogueValue). IsFoundAt k.resources c.args.path.now c.in-Some.index) c.self.view_is
-    (found_place c.self.inside.resources.entries c.args.path.now _ (sym c.in-Some.ensures.index)) in
-    c.remove_at.ensures ∙ ap (λ rs. record c.args.self.now { resources = rs })
-    (removed_by_index c.args.self.now.resources c.args.path.now c.in-Some.index found)
+returns-in-Some c = grind (
+  arith,
+  c.self.view_is,
+  found_place,
+  c.self.inside.resources.entries,
+  removed_by_index,
+  c.args.self.now.resources,
+  c.in-Some.index,
+)

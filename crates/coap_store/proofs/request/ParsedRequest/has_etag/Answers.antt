@@ -8,9 +8,11 @@ use Rattle.coap_store.proofs.request.ParsedRequest.has_etag.Goals as goal
 
 pub returns : goal.returns
 returns c =
-    any_from_yields_List (λ (o : CoapOption). has_number numbers.etag o && same_bytes o.value c.args.etag.now) _ _ _
+    let etag = c.uint_bytes-etag.result.items in
+    rw (← c.uint_bytes-etag.ensures.bytes) (
+    any_from_yields_List (λ (o : CoapOption). has_number numbers.etag o && same_bytes o.value etag) _ _ _
     c.any.ensures.ran (YieldsList-from_first coap_option (λ os. os) _ c.known.ensures)
     (λ x b q k. search (rules, tests))
-    ∙ value_passes (λ (value : List ℕ). same_bytes value c.args.etag.now) numbers.etag c.self.inside.request.now
-    ∙ ap (λ m. list_any (λ (value : List ℕ). same_bytes value c.args.etag.now) (values_of numbers.etag m))
-    c.self.view_is
+    ∙ value_passes (λ (value : List ℕ). same_bytes value etag) numbers.etag c.self.inside.request.now
+    ∙ ap (λ m. list_any (λ (value : List ℕ). same_bytes value etag) (values_of numbers.etag m)) c.self.view_is
+    )

@@ -3,8 +3,7 @@ use Rattle.std.proofs.lemmas.Iterator.Consumers.{YieldsList-from_first}
 use Rattle.std.proofs.lemmas.Iterator.Search.{any_from_yields_List}
 use Rattle.coap_store.specs.Prelude.{CoapOption, coap_option, match_holds}
 use Rattle.coap_wire.specs.OptionNumbers as numbers
-use Rattle.coap_store.proofs.RequestLemmas.{has_number, is_match, value_passes}
-use Rattle.coap_store.proofs.RequestLemmas.{match_of_version}
+use Rattle.coap_store.proofs.RequestLemmas.{has_number, is_match, value_passes, match_of_version}
 use Rattle.coap_store.proofs.request.ParsedRequest.match_holds.Goals as goal
 
 pub returns : goal.returns

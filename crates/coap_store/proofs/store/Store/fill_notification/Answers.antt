@@ -1,8 +1,7 @@
-use Rattle.std.proofs.Common.{arith, refl}
+use Rattle.std.proofs.Common.{arith, refl, ◌≡◌}
 use Rattle.coap_store.specs.Prelude.{notification_at, found_value, says, notification_of}
-use Rattle.std.proofs.Common.{◌≡◌}
 use Rattle.coap_store.proofs.StateLemmas.{state_by_key}
-use Rattle.coap_store.proofs.NotificationLaws.{notification_short}
+use Rattle.coap_store.proofs.NotificationLaws.{notification_short, notification_located}
 use Rattle.coap_store.proofs.store.Store.fill_notification.Goals as goal
 
 reported : (c : goal.After-content)
@@ -17,4 +16,7 @@ returns-clause-reported c = reported c
 
 pub returns-clause-short : goal.returns-clause-short
 returns-clause-short c =
-    rw (reported c) (notification_short _ _ _ _ c.is_kept.ensures.store c.is_kept.ensures.listed c.ranges.now.fits)
+    rw (reported c) (grind (arith, notification_short, c.is_kept.ensures.listed))
+
+pub returns-clause-located : goal.returns-clause-located
+returns-clause-located c = rw (reported c) (notification_located _ _ _)

@@ -1,4 +1,4 @@
-use Rattle.std.proofs.Common.{◌+◌}
+use Rattle.std.proofs.Common.{◌+◌, arith}
 use Rattle.coap_store.specs.Prelude.{IsStore, store_value, body_path}
 use Rattle.coap_store.proofs.CatalogueLemmas.{put_by_index}
 use Rattle.coap_store.proofs.StoreLemmas.{store_put}
@@ -15,8 +15,7 @@ after c =
     let path = body_path c.args._body.now in
     let at = rw (← c.self.view_is) at c.requires.index in
     rw (c.in_ok-replace.ensures.ok, put_by_index s.resources path c.args.index _ at)
-    (store_put s path c.in_range.result c.args.bytes.now c.self.invariant (rw (← c.self.view_is) at c.requires.taken)
-    c.in_range.ensures.small)
+    (grind (arith, store_put, c.in_range.result, c.self.invariant))
 
 pub invariant_of-self-2 : goal.invariant_of-self-2
 invariant_of-self-2 c = after c

@@ -1,9 +1,9 @@
 use Rattle.std.proofs.Common.{◌≡◌, append_assoc}
 use Rattle.coap_server_session.specs.Prelude.{Message, response_with_observe}
-use Rattle.coap_server_session.proofs.response.respond_from.Goals as goal
+use Rattle.coap_server_session.proofs.response.respond.Goals as goal
 
 pub returns : goal.returns
-returns g c =
+returns c =
     let whole : Message = c.payload-2.new.self in
     let built : whole ≡ response_with_observe c.args.token.now c.args.observes c.args.plan.now.response = rw (
       c.payload-2.ensures,
@@ -15,13 +15,12 @@ returns g c =
       c.add_number.ensures.added,
       c.wide.ensures,
       c.format.ensures,
-      c.add_location.ensures.added,
-      c.requires.reported,
       c.add_observe.ensures.added,
       c.add_etag.ensures.added,
-      c.etag.ensures.value,
+      c.etag_number.ensures,
       c.new-response.ensures,
       c.copy.ensures.token,
       c.code.ensures,
+      c.requires.located,
     ) (simp append_assoc) in
     record { reply = rw built at c.reply_compact.ensures.reply; after = rw built at c.reply_compact.ensures.after }
