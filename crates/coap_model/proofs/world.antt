@@ -19,12 +19,10 @@ pub mod BecameLaws
 pub mod QueuedMessages
 pub mod CustodyLaws
 pub mod LastNotificationLaws
-pub mod RegisteredLaws
 pub mod AnswerCounts
 pub mod AnswerCodes
 pub mod RespondedLaws
 pub mod ResponseLaws
-pub mod RegistrationLaws
 pub mod AnsweredLaws
 pub mod ViewEventLaws
 pub mod FateWalk

@@ -86,7 +86,7 @@ pub use Rattle.coap_store.specs.Requests.{path_of}
 unfoldable pub use Rattle.coap_store.specs.Requests.{has_option, is_seconds, match_holds, number_of, value_of}
 pub use Rattle.coap_store.specs.State.{RequestTarget, built, state_of, target_of, text_plain}
 unfoldable pub use Rattle.coap_store.specs.State.{key_for, state_at}
-pub use Rattle.coap_store.specs.Store.{StoreValue, Representation, put_in}
+pub use Rattle.coap_store.specs.Store.{StoreValue, Representation}
 unfoldable pub use Rattle.coap_store.specs.Store.{found_in, put_at, removed_at}
 pub use Rattle.coap_store.specs.declared.plan.Watch.{Watch}
 -- ---- coap_model
@@ -151,7 +151,7 @@ pub use Rattle.coap_model.specs.world.View.{after_view, AllConcern, change_on, c
 unfoldable pub use Rattle.coap_model.specs.world.View.{view_of, concerns, view_step}
 pub use Rattle.coap_model.specs.world.ViewEvents.{first_number, change_events}
 unfoldable pub use Rattle.coap_model.specs.world.ViewEvents.{view_events, changes_of, later_view, view_event}
-pub use Rattle.coap_model.specs.world.World.{World, Step, new_world, Faulted, Handled, ConnectionEntry, Written}
+pub use Rattle.coap_model.specs.world.World.{World, Step, new_world, Handled, ConnectionEntry}
 pub use Rattle.coap_model.specs.world.World.{all_settled}
-pub use Rattle.coap_model.specs.world.World.{on_side, settled_place, stored_after, ticks}
+pub use Rattle.coap_model.specs.world.World.{on_side, settled_place, stored_after}
 unfoldable pub use Rattle.coap_model.specs.world.World.{side_of, step, after_steps, acted}

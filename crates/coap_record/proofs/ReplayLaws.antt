@@ -28,15 +28,13 @@ use Rattle.coap_server_engine.specs.values.Servers.{ServerValue, new_server, ses
 use Rattle.coap_server_engine.specs.world.Shows.{Shows, server_of, place_shown, server_shown}
 use Rattle.coap_server_engine.proofs.world.ShowLaws.{side_there, shared_shown, takes_shown, shows_opened, shows_taken}
 use Rattle.coap_server_engine.proofs.world.ShowLaws.{shows_written, shows_ticked, shows_put, shows_removed, shows_ended}
-use Rattle.coap_server_engine.proofs.world.ShowLaws.{shows_released, shows_responded, shows_dropped}
-use Rattle.coap_server_engine.proofs.world.CallLaws.{new_shows}
+use Rattle.coap_server_engine.proofs.world.ShowLaws.{shows_released, shows_responded, shows_dropped, new_shows}
 use Rattle.coap_server_engine.proofs.values.ServerLemmas.{opens}
 use Rattle.coap_server_engine.proofs.scripting.ShownLemmas.{config_stays}
 use Rattle.coap_server_engine.proofs.scripting.ReplayLemmas.{all_turns_made, replayed_on}
 use Rattle.coap_record.specs.Prelude.{lines_of, events_said, all_events_said, AnnouncesNoSize, CanReplay, HasLines}
-use Rattle.coap_record.specs.Prelude.{IsRecordable}
-use Rattle.coap_record.specs.Prelude.{IsRecordOf, AreWholeLines, SaysNoEvent, with_turns, server_with_turns, write_in}
-use Rattle.coap_record.specs.Prelude.{writes_of, lines_of_writes, drains_of, ReplaysTo}
+use Rattle.coap_record.specs.Prelude.{IsRecordable, IsRecordOf, AreWholeLines, SaysNoEvent, with_turns}
+use Rattle.coap_record.specs.Prelude.{server_with_turns, write_in, writes_of, lines_of_writes, drains_of, ReplaysTo}
 use Rattle.coap_record.proofs.LineLaws.{lines_read_back}
 use Rattle.coap_record.proofs.RecordLemmas.{any_part, are_in_range}
 use Rattle.coap_record.proofs.PartLaws.{whole_lines}

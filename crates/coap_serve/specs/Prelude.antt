@@ -22,6 +22,14 @@ pub use Rattle.coap_server_engine.specs.Prelude.{session_takes, Shows}
 pub use Rattle.coap_server_engine.specs.Prelude.{Stream, split_on, LimitValues, AreInRange, Reason, ConfigValues, Taken}
 pub use Rattle.coap_server_engine.specs.Prelude.{count_of, handled_in, World, Step, IsNotTaken, RefusesPieceOn}
 pub use Rattle.coap_server_engine.specs.Prelude.{server_written, session_shown, ShowsRefused}
+pub use Rattle.coap_server_engine.specs.Prelude.{FormatFault, ReleaseFault, Responded, Ticked, WasRefused, WasTaken}
+pub use Rattle.coap_server_engine.specs.Prelude.{can_take_on, handed_by, responded_refusal, response_event}
+pub use Rattle.coap_server_engine.specs.Prelude.{takes_messages}
+pub use Rattle.coap_server_engine.specs.declared.monitor.DropReason.{DropReason}
+pub use Rattle.coap_server_engine.specs.values.ApplicationCalls.{AreGivenLater, AreMade, HasResponseRoom}
+pub use Rattle.coap_server_engine.specs.values.ApplicationCalls.{IsPartlyServed, NothingGiven, OneMoreGiven}
+pub use Rattle.coap_server_engine.specs.values.ApplicationCalls.{ask_result, asking, offered_events}
+unfoldable pub use Rattle.coap_server_engine.specs.values.ApplicationCalls.{message_limit, served}
 -- ---- coap_conn
 pub use Rattle.coap_conn.specs.Phases.{is_over, stop_of}
 pub use Rattle.coap_conn.specs.QueueValue.{IsNextPart}
@@ -51,28 +59,31 @@ pub use Rattle.coap_serve.specs.declared.door.service.ServiceConfig.{ServiceConf
 pub use Rattle.coap_serve.specs.declared.door.service.Times.{Times}
 pub use Rattle.coap_serve.specs.listener.Histories.{AreCallsBetween, AreSteps, Continues, HasAccepted, History}
 pub use Rattle.coap_serve.specs.listener.Histories.{IsAccepted, Journal, calls_only, history_then, journal, known_by}
-pub use Rattle.coap_serve.specs.listener.Histories.{no_history, one_call, one_drop}
+pub use Rattle.coap_serve.specs.listener.Histories.{NoStep, OneMore, no_history, one_call, one_drop}
+pub use Rattle.coap_serve.specs.listener.Run.{LaterGiven, NoneMade, OneMade, SilentDropped, SilentReleased, TimeSet}
+pub use Rattle.coap_serve.specs.listener.Run.{TurnMade}
 pub use Rattle.coap_serve.specs.listener.Run.{AreTurns, EndsRun, Environment, HasRun, IsBegun, IsCutRun, IsCutTurn}
 pub use Rattle.coap_serve.specs.listener.Run.{IsRun, IsRunCall, IsRunStep, IsTurnFor, KnownOfRun, Matches, Resting}
 pub use Rattle.coap_serve.specs.listener.Run.{RunTrace, ServiceValue, Silent, Unlimited, clock_and_door, config_of}
 pub use Rattle.coap_serve.specs.listener.Run.{environment, exactly, known_of_run, limit_for, moved_calls, moved_to}
 pub use Rattle.coap_serve.specs.listener.Run.{no_trace, plain_config, service_of, short_wait, some_waits, ticked_calls}
 pub use Rattle.coap_serve.specs.listener.Run.{trace_then, turn_trace, wait_within, waited_after}
-pub use Rattle.coap_serve.specs.listener.Serving.{AreServed, AreTimesAfter, HasGoneOn, HasOneMore, HasOpened, HasServed}
-pub use Rattle.coap_serve.specs.listener.Serving.{HasTurned, IsRequestedOnce, IsOpening, IsServedBy, IsTurnBy}
-pub use Rattle.coap_serve.specs.listener.Serving.{IsVisited}
+pub use Rattle.coap_serve.specs.listener.Serving.{AreServed, HasGoneOn, HasOpened, HasServed}
+pub use Rattle.coap_serve.specs.listener.Serving.{HasTurned, IsRequestedOnce, IsOpening, IsTurnBy}
+pub use Rattle.coap_serve.specs.listener.Serving.{AreTakenWith, BytesTaken, BytesWritten, ConnectionDropped}
+pub use Rattle.coap_serve.specs.listener.Serving.{InputEnded, IsVisitStep, IsVisited}
 pub use Rattle.coap_serve.specs.listener.Serving.{KnownOfTurn, LoopState, NoMore, Skipped, Views, Visited, Way}
 pub use Rattle.coap_serve.specs.listener.Serving.{door_calls, history_left, known_of_turn, loop_state, opening}
-pub use Rattle.coap_serve.specs.listener.Serving.{opening_then, state_at, status_of_peer, views_of, visit, way}
+pub use Rattle.coap_serve.specs.listener.Serving.{opening_then, status_of_peer, views_of, visit, way}
 pub use Rattle.coap_serve.specs.listener.Silence.{HasSwept, HasSweptAt, Sweep, acted, drop_one, due_sweep, quiet_action}
 pub use Rattle.coap_serve.specs.listener.Silence.{released_at, released_on, silence_action, swept_one, unswept}
 unfoldable pub use Rattle.coap_serve.specs.listener.Silence.{swept}
 pub use Rattle.coap_serve.specs.listener.Sleepers.{ArePaired, AreAsleep, KeepsBeside, MaySleep, SleepOn, is_known_ready}
 pub use Rattle.coap_serve.specs.listener.Sleepers.{known}
 pub use Rattle.coap_serve.specs.listener.Turns.{CanAnyGoOn, CanGoOn, IsReadiness, IsOutcomeFor, IsLaidOut, IsNoOp}
-pub use Rattle.coap_serve.specs.listener.Turns.{IsOffered}
-pub use Rattle.coap_serve.specs.listener.Turns.{IsServedOnceBy, IsTakenAlone, IsTakenAndWritten, IsTakenInPart}
-pub use Rattle.coap_serve.specs.listener.Turns.{IsTakenWith, IsWaitAfter, PeerStatus, Readiness, Taking, VisitState}
+pub use Rattle.coap_serve.specs.listener.Turns.{IsOffered, have_moved, moves}
+pub use Rattle.coap_serve.specs.listener.Turns.{IsTakenAlone, IsTakenAndWritten, IsTakenInPart}
+pub use Rattle.coap_serve.specs.listener.Turns.{IsTakenWith, IsWaitAfter, PeerStatus, Readiness, VisitState}
 pub use Rattle.coap_serve.specs.listener.Turns.{activity_after, can_go_on, peer_outcome, has_failed, has_written}
 pub use Rattle.coap_serve.specs.listener.Turns.{read_events, is_read_due, is_over_in, least_with, kept_unless}
 pub use Rattle.coap_serve.specs.listener.Turns.{new_activity, peer_status, readiness, refused_events, kept_rest}

@@ -52,6 +52,7 @@ pub(crate) fn greet<W: Outlet, M: Monitor<()>>(
 /// # Preconditions
 ///
 /// The outlet has not failed.
+#[tactic(auto, using(crate::proofs::streams::FlushLemmas::none_flushed, crate::proofs::streams::FlushLemmas::none_stops))]
 pub(crate) fn flush<W: Outlet, M: Monitor<()>>(
     writer: &mut W,
     server: &mut Server,
@@ -196,6 +197,7 @@ fn flush_again<W: Outlet, M: Monitor<()>>(
 /// # Preconditions
 ///
 /// The outlet has not failed.
+#[tactic(auto, using(coap_server_engine::proofs::scripting::FollowLemmas::followed_none, crate::proofs::streams::FlushLemmas::whole_part))]
 fn write_queued<W: Outlet, M: Monitor<()>>(
     writer: &mut W,
     server: &mut Server,

@@ -2,6 +2,4 @@
 pub mod ShownLemmas
 pub mod FollowLemmas
 pub mod ReplayLemmas
-pub mod ListedLemmas
-pub mod CutTakes
 pub mod CutScripts

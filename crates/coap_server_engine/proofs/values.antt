@@ -1,15 +1,9 @@
 -- Lemmas on the effect of each function of the server on the values that the server holds.
 pub mod ServerLemmas
-pub mod ServerCauseLemmas
-pub mod ServerTakenLemmas
 pub mod ChangedLemmas
 pub mod ResponseLemmas
 pub mod ServingLemmas
-pub mod UnansweredLemmas
-pub mod AtOnceLemmas
 pub mod RoomLemmas
-pub mod DueAtOnceLemmas
 pub mod IndexSetLemmas
 pub mod ConcernedLemmas
 pub mod WorkLemmas
-pub mod DeadlineLemmas

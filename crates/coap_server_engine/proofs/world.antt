@@ -1,9 +1,5 @@
 -- Lemmas: each call of a server shows its event, and the messages that a server has processed or rejected after events.
 pub mod ShowLaws
-pub mod CallLaws
 pub mod HandledLaws
 pub mod RefusedLaws
-pub mod RequestLaws
-pub mod DeadlineLaws
 pub mod AtOnceLaws
-pub mod RequestFates

@@ -82,8 +82,7 @@ pub use Rattle.coap_model.specs.world.Connections.{Connection, IsUpToDate, handl
 pub use Rattle.coap_model.specs.world.Connections.{is_cut}
 pub use Rattle.coap_model.specs.world.Connections.{new_side}
 pub use Rattle.coap_model.specs.world.Connections.{kept_on}
-unfoldable pub use Rattle.coap_model.specs.world.Connections.{side_after, side_faulted, side_written, side_ended}
-unfoldable pub use Rattle.coap_model.specs.world.Connections.{side_released, side_announced, side_responded}
+unfoldable pub use Rattle.coap_model.specs.world.Connections.{side_after, side_faulted}
 pub use Rattle.coap_model.specs.world.View.{change_made}
 pub use Rattle.coap_model.specs.world.World.{World, Step, new_world, Handled, ConnectionEntry, all_settled, on_side}
 pub use Rattle.coap_model.specs.world.World.{settled_place, stored_after, ticks}
@@ -168,7 +167,6 @@ pub use Rattle.coap_frame.specs.Framing.{found_frame}
 pub use Rattle.coap_server_session.specs.values.Sessions.{session_raises}
 pub use Rattle.coap_server_session.specs.values.Sessions.{session_rejected}
 pub use Rattle.coap_server_session.specs.values.Sessions.{taking_found, taking_read, MarkedSession, IsMarked}
-unfoldable pub use Rattle.coap_server_session.specs.values.Sessions.{changed_mark}
 unfoldable pub use Rattle.coap_server_session.specs.values.Sessions.{session_settled, session_handled}
 unfoldable pub use Rattle.coap_server_session.specs.values.Sessions.{taking}
 pub use Rattle.coap_server_engine.specs.values.HandedRequests.{handed_on, handed_by, frame_message}
@@ -181,12 +179,11 @@ pub use Rattle.coap_server_engine.specs.values.Exchanges.{Exchange, Requested, O
 pub use Rattle.coap_server_engine.specs.values.Exchanges.{AreUnanswered, offers}
 unfoldable pub use Rattle.coap_server_engine.specs.values.Exchanges.{AnswersMore}
 pub use Rattle.coap_server_engine.specs.values.ApplicationCalls.{server_offered, offered_events, failure_with}
-pub use Rattle.coap_server_engine.specs.values.ApplicationCalls.{response_for, asking, ServeResult, HasResponseRoom}
+pub use Rattle.coap_server_engine.specs.values.ApplicationCalls.{response_for, asking, HasResponseRoom}
 pub use Rattle.coap_server_engine.specs.values.ApplicationCalls.{asks_for, ask_result, IsTakenFor}
 pub use Rattle.coap_server_engine.specs.values.ApplicationCalls.{IsNotTakenFor, AreMade}
 pub use Rattle.coap_server_engine.specs.values.ApplicationCalls.{IsServed, IsPartlyServed}
-pub use Rattle.coap_server_engine.specs.values.ApplicationCalls.{IsRequestedLater, AreGivenLater}
-pub use Rattle.coap_server_engine.specs.values.ApplicationCalls.{NothingGiven, OneMoreGiven, AreRequestedLater}
+pub use Rattle.coap_server_engine.specs.values.ApplicationCalls.{IsRequestedLater, AreRequestedLater}
 unfoldable pub use Rattle.coap_server_engine.specs.values.ApplicationCalls.{message_limit, served}
 -- ---- this crate: views
 pub use Rattle.coap_server_engine.specs.views.LineViews.{line_bytes, IsRun, IsDrainable}

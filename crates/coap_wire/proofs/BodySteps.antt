@@ -9,12 +9,6 @@ use Rattle.coap_wire.specs.Prelude.{EmptyPayload, ◌>>=◌, option_extension, o
 use Rattle.coap_wire.specs.Prelude.{value_at, body_within, body_at}
 use Rattle.coap_wire.proofs.NumberLaws.{option_cases, option_number_rest, option_number_short}
 
--- If both steps together succeed, the first one returned a value.
-pub bind_ok : {A B : Type 0} (r : Result A FormatFault) (f : A → Result B FormatFault) (y : B) → (r >>= f) ≡ Ok y
-    → (x : A) × (r ≡ Ok x) × (f x ≡ Ok y)
-bind_ok (Ok x) f y e = (x, refl, e)
-bind_ok (Err d) f y e = cc
-
 -- The values of two equal `Ok` are equal.
 pub ok_is : {A : Type 0} (x y : A) → ◌≡◌ {A = Result A FormatFault} (Ok x) (Ok y) → x ≡ y
 ok_is x y e = cc

@@ -1,15 +1,15 @@
 -- A flush leaves no queued bytes. If none are queued, a flush changes nothing.
-use Rattle.std.proofs.Common.{◌≡◌, ℕ, zero, suc, ◌+◌, ◌≤◌, List, [], ◌∷◌, ◌++◌, length, map, Some, refl, sym, ap, subst}
-use Rattle.std.proofs.Common.{◌∙◌, ◌⊎◌, inl, inr, arith, append_assoc}
-use Rattle.coap_model.specs.Prelude.{AllByRecursion, Message, LimitValues, StoreValue, is_due, Connection, waiting_on}
-use Rattle.coap_model.specs.Prelude.{side_written, settled_once, settled_within, settled, World, Step, side_of, acted}
-use Rattle.coap_model.specs.Prelude.{step, waiting_of, more_of, written_once, written_times, flushed}
+use Rattle.std.proofs.Common.{◌≡◌, ℕ, zero, suc, ◌+◌, ◌≤◌, List, [], ◌++◌, length, Some, refl, sym, ap, subst, ◌∙◌, ◌⊎◌}
+use Rattle.std.proofs.Common.{inl, inr, arith, append_assoc}
+use Rattle.coap_model.specs.Prelude.{Message, LimitValues, StoreValue, is_due, Connection, waiting_on, side_written}
+use Rattle.coap_model.specs.Prelude.{settled_once, settled_within, settled, World, Step, side_of, acted, step}
+use Rattle.coap_model.specs.Prelude.{waiting_of, more_of, written_once, written_times, flushed}
 use Rattle.std.proofs.Math.Nat.{add-zero}
 use Rattle.std.proofs.lemmas.Bool.{le-leb}
 use Rattle.std.proofs.lemmas.List.{append-nil, length-drop, drop_all}
 use Rattle.coap_model.specs.world.World as world
 use Rattle.coap_model.proofs.world.GrowLaws.{settled_handled, written_handled}
-use Rattle.coap_model.proofs.world.EntryLemmas.{all_to, count_within}
+use Rattle.coap_model.proofs.world.EntryLemmas.{all_stay, all_to, count_within}
 use Rattle.coap_model.proofs.world.SideLaws.{IsAtRest, left_on, once_less, at_rest, settled_rests, side_at_rest_stays}
 use Rattle.coap_model.proofs.world.PlaceLaws.{AreDistinct, places_unchanged}
 use Rattle.coap_model.proofs.world.EndOfInputLaws.{AllHear, step_hears}
@@ -86,7 +86,7 @@ once_turn : (store : StoreValue) (now : ℕ) (s : Connection) → IsFlushedAndAt
     ⊎ (left_on store now (side_once store now s) + 1 ≤ left_on store now s)
 unfolding settled
 once_turn store now s =
-    grind (arith, left_on, written_same, written_observers, settled_less, at_rest, written_empties, settled_rests)
+    grind (arith, written_same, written_observers, settled_less, at_rest, written_empties, settled_rests)
 
 -- If nothing is pending and there is no observer, a round leaves this so and does not change the phase.
 once_alone : (store : StoreValue) (now : ℕ) (s : Connection) → more_of (Some s) ≡ 0
@@ -165,17 +165,12 @@ flush_leaves limits id w s there =
 
 -- ---- no queued bytes
 
--- A change that keeps each element keeps the list.
-pub map_stays : {A : Type 0} (f : A → A) (xs : List A) → AllByRecursion (λ x. f x ≡ x) xs → map f xs ≡ xs
-map_stays f [] each = refl
-map_stays f (x ∷ xs) each = cc (each.0, map_stays f xs each.1)
-
 -- In a world in which no change is lost, a step without an effect of its own changes nothing.
 pub idle_step : (limits : LimitValues) (w : World) (st : Step) → AllHear w
     → acted limits w st ≡ w → step limits w st ≡ w
 unfolding step
 idle_step limits w st hear idle =
-    grind (arith, all_to, side_at_rest_stays, map_stays)
+    grind (arith, all_to, side_at_rest_stays, all_stay)
 
 -- If no bytes are queued, a round does not change the world.
 quiet_once : (limits : LimitValues) (id : ℕ) (w : World) (s : Connection) → AllHear w → side_of id w.sides ≡ Some s
@@ -196,8 +191,7 @@ pub times_further : (limits : LimitValues) (id turns most : ℕ) (w : World) (t 
 unfolding written_times
 times_further limits id turns most w t hear there none within =
     let v = written_times limits id turns w in
-    let takes_input : AllHear v = from_there_on (λ n. AllHear (written_times limits id n w)) 0 turns (omega arith) hear
-    (λ n is. step_hears limits (written_times limits id n w) _) in
+    let takes_input : AllHear v = grind (arith, from_there_on, step_hears) in
     from_there_on (λ n. v ≡ written_times limits id n w) turns most within refl
     (λ n same. grind (arith, quiet_once))
 

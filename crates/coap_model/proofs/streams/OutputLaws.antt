@@ -1,7 +1,7 @@
 -- The world of one connection whose input steps are each followed by a flush. More input continues this world, the
 -- output only grows, and a stopped connection does not change.
-use Rattle.std.proofs.Common.{◌≡◌, ℕ, false, List, [], ◌∷◌, ◌++◌, map, Some, None, refl, sym, ap, subst, ◌∙◌, ◌==◌}
-use Rattle.std.proofs.Common.{arith, append_assoc, is_none}
+use Rattle.std.proofs.Common.{◌≡◌, ℕ, false, List, [], ◌∷◌, ◌++◌, map, Some, None, refl, sym, ap, subst, ◌∙◌, arith}
+use Rattle.std.proofs.Common.{append_assoc, is_none}
 use Rattle.coap_model.specs.Prelude.{AllByRecursion, Message, StreamFault, Reason, takes_messages, LimitValues}
 use Rattle.coap_model.specs.Prelude.{bytes_of, ConfigValues, Connection, side_after, change_after, side_faulted}
 use Rattle.coap_model.specs.Prelude.{settled, new_side, waiting_on, settled_within, ConnectionEntry, World, side_of}
@@ -14,14 +14,15 @@ use Rattle.coap_wire.proofs.StreamSteps.{unfinished_empty, split_unfinished, spl
 use Rattle.coap_conn.proofs.LinkLemmas.{bytes_more}
 use Rattle.coap_model.specs.world.World.{changed_at}
 use Rattle.coap_model.specs.world.World as world
-use Rattle.coap_model.proofs.streams.FlushLaws.{map_stays, idle_step, flush_leaves, quiet_flush}
+use Rattle.coap_model.proofs.streams.FlushLaws.{idle_step, flush_leaves, quiet_flush}
 use Rattle.coap_model.proofs.world.PlaceLaws.{AreDistinct, of_each, first_there}
+use Rattle.coap_model.proofs.world.EntryLemmas.{all_stay}
 use Rattle.coap_model.proofs.world.EndOfInputLaws.{AllHear, step_hears}
 use Rattle.coap_model.proofs.world.AcrossLaws.{handled_there, faulted_there}
 use Rattle.coap_model.proofs.world.ReachedLaws.{step_distinct}
 use Rattle.coap_model.proofs.world.LimitLaws.{step_fits}
-use Rattle.coap_model.proofs.world.StepLaws.{steps_of_more, spelled_by, spelled_then, spelled_same, first_spelled}
-use Rattle.coap_model.proofs.world.StepLaws.{taken_here, each_beyond}
+use Rattle.coap_model.proofs.world.StepLaws.{steps_of_more, spelled_then, spelled_same, first_spelled, taken_here}
+use Rattle.coap_model.proofs.world.StepLaws.{each_beyond}
 use Rattle.coap_model.proofs.world.CutLaws.{cut_steps}
 
 -- ---- steps of input bytes
@@ -43,10 +44,9 @@ stays_there limits id w st s (OfFault fault) there = grind (arith, faulted_there
 one_stays : (id : ℕ) (f : Connection → Connection) (s : Connection) (ps : List ConnectionEntry) → AreDistinct ps
     → side_of id ps ≡ Some s → f s ≡ s → map (changed_at id f) ps ≡ ps
 one_stays id f s ps distinct there stays =
-    map_stays (changed_at id f) ps
+    all_stay (changed_at id f) ps
     (of_each (λ n t. changed_at id f (record { id = n; side = t }) ≡ record { id = n; side = t }) ps distinct
-    (λ n t at. cond_both (n == id) _ _ (λ (p : ConnectionEntry). p ≡ record { id = n; side = t })
-    (λ same. let here = eqb-true n id same in cc) (λ apart. refl)))
+    (λ n t at. grind (arith, cond_both, eqb-true)))
 
 -- If the connection no longer accepts messages, nothing changes.
 nothing_acted : (limits : LimitValues) (id : ℕ) (w : World) (st : Step) (s : Connection) → AreDistinct w.sides
@@ -92,14 +92,17 @@ after_stopped : (c : ConfigValues) (id : ℕ) (w : World) (ss : List Step) (s : 
     → flushed_after c.limits id w ss ≡ w
 unfolding flushed_after
 after_stopped c id w [] s one all over = refl
-after_stopped c id w (st ∷ ss) s one all over =
-    grind (
-      arith,
-      idle_step c.limits w st one.takes_input (nothing_acted c.limits id w st one.side one.distinct one.there over
-          all.0),
-      quiet_flush c.limits id w one.side one.takes_input one.there one.waits,
-      after_stopped c id w ss s one all.1 over,
-    )
+after_stopped c id w (st ∷ ss) s one all over = grind (
+  arith,
+  idle_step,
+  one.takes_input,
+  nothing_acted,
+  one.side,
+  one.distinct,
+  one.there,
+  quiet_flush,
+  after_stopped c id w ss s one all.1 over,
+)
 
 after_then : (limits : LimitValues) (id : ℕ) (w : World) (ss ts : List Step)
     → flushed_after limits id w (ss ++ ts) ≡ flushed_after limits id (flushed_after limits id w ss) ts
@@ -131,7 +134,7 @@ module _ (c : ConfigValues) where
   -- Events after which the stream has these bytes, and more bytes after them.
   module _ (es : List AcceptedCall) (bytes more : List ℕ) (spelled : spelled_on M id es ≡ (stream_of c bytes, M)) where
     pub spelled_more : spelled_on M id (es ++ Took id more ∷ []) ≡ (stream_of c (bytes ++ more), M)
-    spelled_more = grind (arith, spelled_then M id, spelled_by, taken_here id, split_goes_on M)
+    spelled_more = grind (arith, spelled_then M id, taken_here id, split_goes_on M)
 
     pub steps_taken : steps_by M es (Took id more) ≡ beyond id (stream_of c bytes) (stream_of c (bytes ++ more))
     unfolding steps_by
@@ -209,15 +212,7 @@ module _ (c : ConfigValues) where
   output_grows xs ys =
       let all = world_for_written xs in
       let s = all.side in
-      let before : IsWrittenOut id s (world_for c xs) = record {
-        side = s;
-        there = all.there;
-        waits = all.waits;
-        more = [];
-        queued = sym (append-nil s.history.queued);
-        distinct = all.distinct;
-        takes_input = all.takes_input;
-      } in
+      let before : IsWrittenOut id s (world_for c xs) = grind (arith, append-nil) in
       let now = more_written_out xs ys s before in (
         bytes_of now.more,
         cc (

@@ -1,14 +1,14 @@
 -- A relation between a connection before and after. If it holds across every effect on a connection, it holds across
 -- settling and across each step. So a property that every effect keeps is kept by all events.
-use Rattle.std.proofs.Common.{Bool, List, None, Option, Some, [], cond, inl, inr, is_none, map, refl, rules, subst, sym}
-use Rattle.std.proofs.Common.{ℕ, ◌++◌, ◌∙◌, ◌∷◌, ◌≡◌, ◌⊎◌}
+use Rattle.std.proofs.Common.{Bool, List, None, Option, Some, [], cond, inl, inr, map, refl, rules, subst, sym, ℕ, ◌++◌}
+use Rattle.std.proofs.Common.{◌∙◌, ◌∷◌, ◌≡◌, ◌⊎◌}
 use Rattle.std.proofs.lemmas.Bool.{cases_eq, cond_both}
 use Rattle.coap_model.specs.Prelude.{AcceptedCall, Change, ConfigValues, Connection, ConnectionEntry, Delete, History}
 use Rattle.coap_model.specs.Prelude.{LimitValues, Message, Nothing, Put, Server, Step, StoreValue, StreamFault, World}
-use Rattle.coap_model.specs.Prelude.{acted, change_after, changed, new_history, new_side, new_world, put_refusal}
-use Rattle.coap_model.specs.Prelude.{settled, settled_once, settled_place, side_after, side_announced, side_ended}
-use Rattle.coap_model.specs.Prelude.{side_faulted, side_of, side_released, side_responded, side_written, steps_of}
-use Rattle.coap_model.specs.Prelude.{stored_after, ticks, world_after}
+use Rattle.coap_model.specs.Prelude.{acted, change_after, changed, new_history, new_side, new_world, settled}
+use Rattle.coap_model.specs.Prelude.{settled_once, settled_place, side_after, side_announced, side_ended, side_faulted}
+use Rattle.coap_model.specs.Prelude.{side_of, side_released, side_responded, side_written, steps_of, stored_after}
+use Rattle.coap_model.specs.Prelude.{world_after}
 use Rattle.coap_model.specs.world.World.{changed_at}
 use Rattle.coap_wire.proofs.NumberLaws.{none_or_some}
 use Rattle.coap_model.specs.world.World as world
@@ -70,20 +70,9 @@ module _ (R : Connection → Connection → Type 0) (limits : LimitValues) (w : 
       → HoldsFrom R limits w st id t
   unfolding acted
   acted_across (world.Opened at) is t = search (rules, if_across, opened_across)
-  acted_across (world.Handled at m) is t = search (rules, changed_across)
-  acted_across (world.Faulted at fault) is t = search (rules, changed_across)
-  acted_across (world.Written at n) is t = changed_across at (λ s. side_written s n) t (λ here s. holds.written s n)
-  acted_across (world.Ticked now) is t = if_across _ t (ticks w.now now) (same_across t)
-  acted_across (world.Stored path format bytes) is t =
-      if_across _ t (is_none (put_refusal w.store path bytes)) (same_across t)
-  acted_across (world.Removed path) is t = same_across t
-  acted_across (world.Ended at cut) is t = changed_across at (λ s. side_ended s cut) t (λ here s. holds.ended s cut)
-  acted_across (world.Released at) is t = changed_across at side_released t (λ here s. holds.released s)
-  acted_across (world.Announced at size) is t = search (rules, changed_across)
-  acted_across (world.Responded at m) is t =
-      changed_across at (λ s. side_responded s m) t (λ here s. holds.responded s m)
   acted_across (world.Dropped at) is t =
       search (rules, cases_eq, none_or_some, dropped_here, same_across, dropped_elsewhere)
+  acted_across did is t = search (rules, changed_across, if_across, same_across)
 
   once_across : (store : StoreValue) (now : ℕ) (t : Connection) → HoldsFrom R limits w st id t
       → HoldsFrom R limits w st id (settled_once store now t)

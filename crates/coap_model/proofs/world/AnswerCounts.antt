@@ -53,17 +53,13 @@ abbrev pub Covers : List PendingEntryValue → List PendingEntryValue → Type 0
 Covers ps qs = (ms : List Message) → CorrespondTo None ms ps → CorrespondTo None ms qs
 
 covers_more : (ps qs rs : List PendingEntryValue) → Covers ps qs → Covers (ps ++ rs) (qs ++ rs)
-covers_more ps qs rs covers ms stand =
-    let apart = stand_apart None ms ps rs stand in
-    subst (λ ns. CorrespondTo None ns (qs ++ rs)) (sym apart.there)
-    (stand_append None apart.first apart.others qs rs (covers apart.first apart.those) apart.rest)
+covers_more ps qs rs covers ms stand = grind (arith, stand_apart, stand_append)
 
 covers_first : (ps qs : List PendingEntryValue) → Covers (ps ++ qs) ps
 unfolding CorrespondTo
 covers_first ps qs ms stand =
     let apart = stand_apart None ms ps qs stand in
-    subst (CorrespondTo None ms) (append-nil ps) (subst (λ ns. CorrespondTo None ns (ps ++ [])) (sym apart.there)
-    (stand_append None apart.first apart.others ps [] apart.those tt))
+    subst (CorrespondTo None ms) (append-nil ps) (grind (arith, stand_append))
 
 -- ---- a Ping that was handled
 
@@ -119,9 +115,7 @@ one_asked : (ms : List Message) (n : Tally) (ps : List PendingEntryValue) (pong 
     → IfSome pong (FollowsPing ms n ps) → CorrespondTo None ms ps → CorrespondTo None ms (ps ++ pong_entry pong)
 unfolding CorrespondTo
 one_asked ms n ps None is stand = subst (CorrespondTo None ms) (sym (append-nil ps)) stand
-one_asked ms n ps (Some token) is stand =
-    subst (λ ns. CorrespondTo None ns (ps ++ Pong token ∷ [])) (sym is.there)
-    (stand_append None is.earlier (is.ping ∷ is.later) ps (Pong token ∷ []) is.own (inl (is.asks, tt)))
+one_asked ms n ps (Some token) is stand = grind (arith, stand_append, is.earlier, is.own)
 
 module _ {A : Type 0} (row : RowOf A) where
   abbrev tally_of : List A → Tally

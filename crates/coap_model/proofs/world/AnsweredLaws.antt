@@ -1,16 +1,15 @@
 -- When a Pong with Custody is queued, each request handled before its Ping already has its response, whatever happens
 -- to a connection. No two such Pongs have the same Ping.
-use Rattle.std.proofs.Common.{Bool, IfSome, List, None, Option, Some, [], ap, arith, false, inl, inr, is_none, refl}
-use Rattle.std.proofs.Common.{rules, subst, sym, true, ℕ, ◌&&◌, ◌++◌, ◌==◌, ◌∙◌, ◌∷◌, ◌≡◌, ◌≤◌}
+use Rattle.std.proofs.Common.{Bool, IfSome, List, None, Option, Some, [], ap, arith, false, is_none, refl, rules, subst}
+use Rattle.std.proofs.Common.{sym, true, ℕ, ◌&&◌, ◌++◌, ◌==◌, ◌∙◌, ◌∷◌, ◌≡◌, ◌≤◌}
 use Rattle.std.proofs.lemmas.Bool.{both_ways, cases_Bool, cond-true, cond_both, or_left}
 use Rattle.std.proofs.lemmas.List.{append-nil, length-append}
 use Rattle.std.proofs.lemmas.Grind.{common_steps}
 use lib.Pointwise.{bytes_decides}
 use Rattle.coap_model.specs.Prelude.{AcceptedCall, AllByRecursion, Answer, Application, ApplicationsValue, Bare}
 use Rattle.coap_model.specs.Prelude.{ConfigValues, Connection, CorrespondTo, Engine, FollowsAnswers, History}
-use Rattle.coap_model.specs.Prelude.{LimitValues, Message}
-use Rattle.coap_model.specs.Prelude.{Observer, PendingEntryValue, Phase, Pong, Reaction, Reason, Reply, Responder}
-use Rattle.coap_model.specs.Prelude.{Response, Server, Stopped, StoreValue, Whole, after, after_sent}
+use Rattle.coap_model.specs.Prelude.{LimitValues, Message, Observer, PendingEntryValue, Phase, Pong, Reaction, Reason}
+use Rattle.coap_model.specs.Prelude.{Reply, Responder, Response, Server, Stopped, StoreValue, Whole, after, after_sent}
 use Rattle.coap_model.specs.Prelude.{answers, asks_answer, asks_custody, asks_with, awaits, bare_response, first_due}
 use Rattle.coap_model.specs.Prelude.{fit, goes_on, is_asking, is_custody_pong, is_request, is_response, late_message}
 use Rattle.coap_model.specs.Prelude.{late_response, limit_now, link_of, list_any, next_due, notification, notified}
@@ -22,9 +21,8 @@ use Rattle.coap_conn.proofs.PendingLaws.{custody_at_once, due_answer, due_pong}
 use Rattle.coap_conn.proofs.ReactionLaws.{IsNoPong, IsPlain, MayFollow, abort_plain, live_so}
 use Rattle.coap_conn.specs.Calls as call
 use Rattle.coap_wire.specs.Codes as code
-use Rattle.coap_model.proofs.world.WalkLaws.{announced_between, answer_goes, due_is, ended_between, faulted_between}
-use Rattle.coap_model.proofs.world.WalkLaws.{received, released_between, responded_between, without_first}
-use Rattle.coap_model.proofs.world.WalkLaws.{written_between}
+use Rattle.coap_model.proofs.world.WalkLaws.{answer_goes, due_is, plain_between, received, responded_between}
+use Rattle.coap_model.proofs.world.WalkLaws.{without_first}
 use Rattle.coap_model.proofs.world.GoingOn.{Keeps, kept_after}
 use Rattle.coap_model.proofs.world.SideLaws.{handles_parts, pending_room, settled_cases}
 use Rattle.coap_model.proofs.world.QueuedMessages.{open_answers}
@@ -76,21 +74,14 @@ module _ {b d : Tally} {ms qs : List Message} {es : List PendingEntryValue} {p :
       → AllFollow pending ms (plus b (responses qs)) (pongs_in (qs ++ more)) es
       → (answers q ≡ false → answers p ≡ false) → (takes_messages q ≡ true → takes_messages p ≡ true)
       → AtMost b (plus c (responses more)) → AtMost d (plus f (responses more)) → FollowsBut c f ms (qs ++ more) es q
-  more_follows {c} may rest on takes first total = record {
-    pongs = pongs_may may;
-    rest = follow_grows pending ms (plus b (responses qs)) (plus c (responses (qs ++ more))) (pongs_in (qs ++ more)) es
-        (λ t. omega (arith, first t, count_more (responds t) qs more)) rest;
-    all = λ live t. omega (arith, is.all (takes live) t, total t, count_more (responds t) qs more);
-    quiet = λ off. is.quiet (on off);
-  }
+  more_follows {c} may rest on takes first total =
+      grind (arith, pongs_may, follow_grows, pending, responses, count_more, is.all, is.quiet)
 
   -- There is no such Pong among them.
   none_follow : {c f : Tally} {q : Phase} → AllByRecursion IsNoPong more → (answers q ≡ false → answers p ≡ false)
       → (takes_messages q ≡ true → takes_messages p ≡ true) → AtMost b (plus c (responses more))
       → AtMost d (plus f (responses more)) → FollowsBut c f ms (qs ++ more) es q
-  none_follow others =
-      more_follows (pongs_other ms (responses qs) (pongs_in qs) more others)
-      (rest_after (plus b (responses qs)) ms qs more es others is.rest)
+  none_follow others = search (rules, more_follows, pongs_other, responses, rest_after)
 
   -- The phase of the connection is unchanged.
   same_follows : {c f : Tally} → AllByRecursion IsNoPong more → AtMost b (plus c (responses more))
@@ -100,13 +91,7 @@ module _ {b d : Tally} {ms qs : List Message} {es : List PendingEntryValue} {p :
   -- Or the connection stops.
   over_follows : {c f : Tally} {q : Phase} → AllByRecursion IsPlain more → takes_messages q ≡ false
       → FollowsBut c f ms (qs ++ more) [] q
-  over_follows plain over = record {
-    pongs = pongs_may (pongs_other ms (responses qs) (pongs_in qs) more
-        (all_to IsPlain IsNoPong (λ m is. is.1) more plain));
-    rest = tt;
-    all = λ live. absurd (both_ways _ over live);
-    quiet = λ off. refl;
-  }
+  over_follows plain over = grind (arith, pongs_may, pongs_other, responses, all_to, both_ways)
 
 -- One more entry is pending.
 pending_follows : {b d f : Tally} {ms qs : List Message} {es : List PendingEntryValue} {p : Phase}
@@ -141,12 +126,7 @@ module _ {b d : Tally} (h : History) (es : List PendingEntryValue)
   -- A message that is no Pong with Custody.
   other_pays : (m : Message) → IsNoPong m → AtMost b (plus nothing (responses (m ∷ [])))
       → AtMost d (plus nothing (responses (m ∷ []))) → IsPaying b d h es m
-  other_pays m other first total = record {
-    may = pongs_other h.handled (responses h.queued) (pongs_in h.queued) (m ∷ []) (other, tt);
-    rest = rest_after (plus b (responses h.queued)) h.handled h.queued (m ∷ []) es (other, tt) is.rest;
-    first = first;
-    total = total;
-  }
+  other_pays m other first total = search (rules, pongs_other, responses, rest_after)
 
   paid_follows : (m : Message) → IsPaying b d h es m
       → FollowsBut nothing nothing h.handled (h.queued ++ m ∷ []) es h.phase
@@ -186,15 +166,7 @@ module _ (h : History) (m : Message) (server : h.role ≡ Server) (live : takes_
 
   -- If the message is a request, a response is owed.
   request_follows : FollowsBut nothing (λ t. one (asks_with t m)) now_handled h.queued h.pending h.phase
-  request_follows = record {
-    pongs = follow_longer queue h.handled (m ∷ []) now_handled nothing nothing [] [] h.queued refl (omega arith)
-        (λ ns stand. stand) is.pongs;
-    rest = follow_longer pending h.handled (m ∷ []) now_handled (plus nothing (responses h.queued))
-        (plus nothing (responses h.queued)) (pongs_in h.queued) (pongs_in h.queued) h.pending refl (omega arith)
-        (λ ns stand. stand) is.rest;
-    all = λ takes t. omega (arith, is.all takes t, count_more (asks_with t) h.handled (m ∷ []));
-    quiet = is.quiet;
-  }
+  request_follows = grind (arith, follow_longer, queue, pending, responses, is.all, count_more)
 
   -- The messages handled before asked for the Pongs that are queued or pending.
   queued_asked : CorrespondTo None h.handled (pongs_in h.queued)
@@ -224,25 +196,16 @@ module _ (h : History) (m : Message) (server : h.role ≡ Server) (live : takes_
   -- A Pong with Custody is queued at once only if nothing is pending.
   module _ (n : Message) (may : MayFollow (state_now h) m n) (alone : is_custody_pong n ≡ true → h.pending ≡ []) where
     may_follow : is_custody_pong n ≡ true → FollowsPing now_handled (responses h.queued) (pongs_in h.queued) n.token
-    may_follow custody =
-        let pong = may.pong custody in
-        rw pong.2 (ping_follows (responses h.queued) (pongs_in h.queued)
-        (λ t. omega (arith, is.all live t, ap (λ es. pending_count es t) (alone custody))) queued_asked pong.0 pong.1)
+    may_follow custody = grind (arith, may.pong, ping_follows, responses, is.all, queued_asked)
 
     rest_follows : AllFollow pending now_handled (plus nothing (responses h.queued)) (pongs_in (h.queued ++ n ∷ []))
         h.pending
-    rest_follows =
-        elim (cases_Bool (is_custody_pong n)) [
-          | inl custody ↦ rw (alone custody) tt
-          | inr other ↦ rest_after (plus nothing (responses h.queued)) now_handled h.queued (n ∷ []) h.pending
-              (other, tt) request_follows.rest
-        ]
+    rest_follows = grind (arith, cases_Bool, rest_after, responses, request_follows.rest)
 
     alone_follows : {f : Tally} → is_asking m ≡ false
         → FollowsBut nothing f now_handled (h.queued ++ n ∷ []) h.pending h.phase
     alone_follows other =
-        more_follows request_follows (n ∷ []) (pong_claim n _ may_follow, tt) rest_follows (λ off. off) (λ on. on)
-        (omega arith) (unrequested _ other)
+        search (rules, more_follows, request_follows, pong_claim, may_follow, rest_follows, unrequested)
 
   unless_follows : (over : Option Reason) → is_none over ≡ true → Claim (reaction_unless (state_now h) m over)
   unless_follows None none = live_so (state_now h) m Claim (record {
@@ -289,7 +252,7 @@ module _ (store : StoreValue) (now : ℕ) (s : Connection) (m : Message) (server
       → PongsFollow (side_handled store now s m).history
   handled_follows received =
       handled_cases store now s m (λ t. PongsFollow t.history)
-      (λ other. subst (λ (asks : Bool). OwesStill nothing (owed_so asks) received_so) other received)
+      (λ other. grind (arith, received))
       (λ asks by moment requested. pending_follows received (Answer by m.token moment) tt
       (open_answers received_so.phase (request_quiet s m asks).1)
       (λ t. omega (arith, owed_token (asks_answer s m) t)))
@@ -312,20 +275,7 @@ module _ (h : History) (is : PongsFollow h) (before : List PendingEntryValue) (e
 
   -- The response of a removed entry is still to be queued.
   let_go : FollowsBut (pending_count (e ∷ [])) (pending_count (e ∷ [])) h.handled h.queued (before ++ rest) h.phase
-  let_go = record {
-    pongs = is.pongs;
-    rest = follow_without pending h.handled (plus nothing (responses h.queued))
-        (plus (pending_count (e ∷ [])) (responses h.queued)) (pongs_in h.queued) before e rest (omega arith)
-        (subst (AllFollow pending h.handled (plus nothing (responses h.queued)) (pongs_in h.queued)) there is.rest);
-    all = λ takes t. omega (
-      arith,
-      is.all takes t,
-      ap (λ es. pending_count es t) there,
-      count_more (awaits t) before (e ∷ rest),
-      count_more (awaits t) before rest,
-    );
-    quiet = λ off. absurd (both_ways _ off pending_on);
-  }
+  let_go = grind (arith, follow_without, pending, responses, is.all, count_more, both_ways, pending_on)
 
 late_coded : (by : Responder) → coded (late_response by).code ≡ true
 late_coded Engine = refl
@@ -337,9 +287,7 @@ sent_due h now (Answer by token moment) due is =
     let first = due_answer now h.pending by token moment due in
     let e : PendingEntryValue = Answer by token moment in
     let n : Tally = pending_count (e ∷ []) in
-    let left : OwesStill n n (without_first h now) =
-    subst (λ es. FollowsBut n n h.handled h.queued es h.phase) (sym first.without)
-    (let_go h is first.before e first.after first.there) in
+    let left : OwesStill n n (without_first h now) = grind (arith, let_go) in
     subst (λ (g : History). PongsFollow (after g (call.Reply (late_message by token))))
     (sym (answer_goes h now by token moment due))
     (owed_follows n n (without_first h now) left token false (late_response by)
@@ -349,22 +297,9 @@ sent_due h now (Pong token) due is =
     let later : List PendingEntryValue = without_due now h.pending in
     let n : Tally = pending_count (Pong token ∷ []) in
     let queued : Tally = responses h.queued in
-    let rest : AllFollow pending h.handled (plus nothing queued) (pongs_in h.queued) (Pong token ∷ later) =
-    subst (AllFollow pending h.handled (plus nothing queued) (pongs_in h.queued)) there is.rest in
     let left = let_go h is [] (Pong token) later there in
-    let whole : IsPaying n n h later (pong_with true token) = record {
-      may = (
-        follow_at pending h.handled (plus nothing queued) queued (pongs_in h.queued) [] (Pong token) later
-            (omega arith) rest,
-        tt,
-      );
-      rest = subst (λ ps. AllFollow pending h.handled (plus n queued) ps later)
-          (sym (pongs_more queue [] h.queued (pong_with true token ∷ [])))
-          (follow_grows pending h.handled (plus (plus nothing queued) n) (plus n queued)
-          (pongs_in h.queued ++ Pong token ∷ []) later (omega arith) rest.1);
-      first = omega arith;
-      total = omega arith;
-    } in
+    let whole : IsPaying n n h later (pong_with true token) =
+    grind (arith, follow_at, pending, pongs_more, queue, follow_grows) in
     subst PongsFollow (sym (due_is h now (Some (Pong token)) due))
     (send_follows h later left (pong_with true token) (pong_with false token) whole
     (other_pays h later left (pong_with false token) refl (omega arith) (omega arith))
@@ -378,9 +313,7 @@ responded_follows h m none is =
     let e : PendingEntryValue = Answer Application m.token first.moment in
     let codes = plain_codes m (allowed (link_of h) m none).plain in
     let n : Tally = pending_count (e ∷ []) in
-    let left : FollowsBut n n h.handled h.queued (without_request m.token h.pending) h.phase =
-    subst (λ es. FollowsBut n n h.handled h.queued es h.phase) (sym first.without)
-    (let_go h is first.before e first.after first.there) in
+    let left : FollowsBut n n h.handled h.queued (without_request m.token h.pending) h.phase = grind (arith, let_go) in
     let others = without_request m.token h.pending in
     send_follows h others left m (bare_response m)
     (response_pays n n h others left m (omega arith) (omega arith) codes.0)
@@ -407,15 +340,10 @@ follows_keeps : (limits : LimitValues) (a : Option ApplicationsValue) → Keeps 
 follows_keeps limits a = let R : History → History → Type 0 = λ h k. PongsFollow h → PongsFollow k in record {
   first = record { pongs = (tt, tt); rest = tt; all = λ takes t. omega arith; quiet = λ off. refl };
   handled = λ store now s m same side is. after_follows store now s m side.is_server is;
-  faulted =
-      faulted_between R (λ h is. is)
-      (λ h fault takes room is. over_follows is _ (abort_plain (limit_now h) (reject_reason fault)) refl);
-  written = written_between R (λ h is. is) (λ h n within is. is);
-  ended = ended_between R (λ h is. is) (λ h cut takes is. over_follows is [] tt refl);
-  released =
-      released_between R (λ h is. is)
-      (λ h opened none is. over_follows is (release ∷ []) ((refl, refl), tt) refl);
-  announced = announced_between R (λ h is. is)
+  plain = plain_between R (λ h is. is)
+      (λ h fault takes room is. over_follows is _ (abort_plain (limit_now h) (reject_reason fault)) refl)
+      (λ h n within is. is) (λ h cut takes is. over_follows is [] tt refl)
+      (λ h opened none is. over_follows is (release ∷ []) ((refl, refl), tt) refl)
       (λ h size opened room fit is. same_follows is (own_csm size ∷ []) (refl, tt) (omega arith) (omega arith));
   responded = responded_between R (λ h is. is) (λ h m answering none is. responded_follows h m none is);
   reported = λ store now s is. settled_cases store now s (λ t. PongsFollow t.history)

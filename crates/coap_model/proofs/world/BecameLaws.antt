@@ -1,7 +1,7 @@
 -- A connection after it accepted bytes: a message was handled, an error stopped it, or it is unchanged. Settling
 -- handles no message.
 use Rattle.std.proofs.Common.{◌≡◌, ℕ, Bool, true, false, List, [], ◌∷◌, ◌++◌, Some, None, refl, sym, ap, ◌∙◌, arith}
-use Rattle.std.proofs.Common.{◌≢◌}
+use Rattle.std.proofs.Common.{◌≢◌, rules}
 use Rattle.std.proofs.lemmas.List.{append-nil}
 use Rattle.coap_model.specs.Prelude.{Message, StreamFault, Stream, Phase, Reject, Reason, PendingEntryValue}
 use Rattle.coap_model.specs.Prelude.{without_due, due_index, reject_of, reject_reason, History, StoreValue}
@@ -44,17 +44,13 @@ rests_self : (h : History) → HandlesNone h h
 rests_self h = grind arith
 
 rests_then : (h k g : History) → HandlesNone h k → HandlesNone k g → HandlesNone h g
-rests_then h k g p q = record {
-  handled = q.handled ∙ p.handled;
-  stopped = λ why is. q.stopped why (p.stopped why is);
-  stops = λ is. q.stops (p.stops is);
-}
+rests_then h k g p q = search (rules, q.stopped, p.stopped, q.stops, p.stops)
 
 -- A message is sent on a connection that has not stopped.
 sent_rests : (h : History) (pending : List PendingEntryValue) (m less : Message)
     → ((why : Reason) → HasStopped h why → ⊥) → HandlesNone h (sent (holding h pending) m less)
 sent_rests h pending m less live =
-    grind (arith, sent_either, holding)
+    grind (arith, sent_either)
 
 response_rests : Replies HandlesNone
 response_rests h token observe r does room = grind (arith, sent_rests)
@@ -165,7 +161,7 @@ module _ (c : ConfigValues) (es : List AcceptedCall) (id : ℕ) (bytes : List �
           handled = grind arith;
           stopped = rests.stopped (reject_reason (reject_of fault)) rejects.stopped;
         })
-            (ap (λ u. u.messages) adds.stream ∙ append-nil (stream_on c.limits.max_message id es).messages)
+            (grind (arith, append-nil))
             (ap (λ u. u.fault) adds.stream),
       )
 

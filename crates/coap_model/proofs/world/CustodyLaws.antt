@@ -12,9 +12,9 @@ use Rattle.coap_model.specs.Prelude.{side_answered, side_with, asks_pending, Cor
 use Rattle.coap_model.specs.Prelude.{IsFirstPending, KeepsPending, AddsRequested, Reason, PeerTooSmall, state_without}
 use Rattle.coap_model.specs.Prelude.{without_request, side_responded, response_refusal, link_of, KeepsBut, next_pending}
 use Rattle.coap_model.specs.Prelude.{next_due, notified, notification_message, notification}
-use Rattle.coap_model.proofs.world.WalkLaws.{there_or_not, PlainCall, Fault, Write, End, Release, Announcement}
-use Rattle.coap_model.proofs.world.WalkLaws.{plain_between, pending_is, said_request, sent, without_first, Replies}
-use Rattle.coap_model.proofs.world.WalkLaws.{after_between, responded_between, once_between, received, holding}
+use Rattle.coap_model.proofs.world.WalkLaws.{there_or_not, PlainCall, plain_between, pending_is, said_request, sent}
+use Rattle.coap_model.proofs.world.WalkLaws.{without_first, Replies, after_between, responded_between, once_between}
+use Rattle.coap_model.proofs.world.WalkLaws.{received, holding}
 use Rattle.std.proofs.lemmas.Bool.{and_from, both_ways}
 use Rattle.std.proofs.lemmas.List.{append_cancel_left, append-nil}
 use lib.Pointwise.{bytes_decides}
@@ -23,7 +23,7 @@ use Rattle.coap_conn.proofs.RequestLemmas.{react_asks}
 use Rattle.coap_store.proofs.HoldLaws.{delay_of_answer}
 use Rattle.coap_model.proofs.world.EntryLemmas.{all_to}
 use Rattle.coap_model.proofs.world.GoingOn.{Keeps}
-use Rattle.coap_conn.proofs.ReactionLaws.{IsPlain, react_so, IsNoPong, StopsAtMost}
+use Rattle.coap_conn.proofs.ReactionLaws.{react_so, IsNoPong, StopsAtMost}
 use Rattle.coap_model.proofs.world.QueuedMessages.{plain_queues, sent_either, sent_all, reply_either}
 use Rattle.coap_model.proofs.world.RespondedLaws.{allowed, plain_codes, response_is_no_pong}
 use Rattle.coap_model.proofs.world.SideLaws.{replied_cases, handles_parts}
@@ -84,19 +84,14 @@ custody_waits store now s m =
     (after_between (λ h. Gives (h.pending ≡ []) h) (Gives ⊥) (λ h. gives_none (h.pending ≡ []) h h refl)
     (λ h. gives_then (h.pending ≡ []) h)
     (λ h m takes room. (_, refl, custody_at_once (state_now h) m)) (λ h. gives_none ⊥ h h refl) reply_gives
-    (λ h by token moment opened may. gives_none ⊥ h (holding h (h.pending ++ Answer by token moment ∷ [])) refl) store
+    (λ h by token moment opened may. grind (arith, gives_none)) store
     now s m)
 
 -- Plain calls queue no such Pong.
 pub plain_queues_no_custody : (s t : Connection) → PlainCall s t → QueuesCustody s t → ⊥
 plain_queues_no_custody s t call =
     let queues = plain_queues s t call in
-    custody_gives ⊥ s t (
-      queues.more,
-      queues.same,
-      both_ways _
-          (none_pass is_custody_pong queues.more (all_to IsPlain IsNoPong (λ m is. is.1) queues.more queues.such)),
-    )
+    custody_gives ⊥ s t (grind (arith, both_ways, none_pass, all_to))
 
 -- The first pending entry is a Pong.
 abbrev IsPongFirst : History → Type 0
@@ -283,10 +278,7 @@ message_hears a h m =
       silent = λ now outstanding silent. (silent, adds_none a m s.pending now);
       stops = λ why farewell plain one may. grind arith;
       queues = λ n none. (λ is. is, adds_none a m s.pending s.phase);
-      keeps = λ ping custody some. (
-        λ is. is,
-        adds_one a m s.pending (Pong m.token) s.phase (rw (ping, custody, (bytes_decides m.token m.token).1 refl) refl),
-      );
+      keeps = λ ping custody some. grind (arith, adds_one, bytes_decides);
     }) in
     grind (arith, received h m, adds_none a m h.pending h.phase)
 
@@ -307,7 +299,7 @@ handled_hears store now s m =
       ) refl),
     ))
     (λ asks. reply_either h _ (HandlesOne a m s.history) received
-    (record { handled_more = received.handled_more; stops = λ is. refl; adds = grind arith }))
+    (grind arith))
 
 -- ---- histories
 
@@ -342,14 +334,10 @@ corresponds_keeps limits a = let R : History → History → Type 0 = λ h k. Co
   handled =
       λ store now s m same is stand.
       grind (arith, received_corresponds, handles_parts, handled_hears);
-  faulted = λ s fault. corresponds_plain a s _ (Fault fault);
-  written = λ s n. corresponds_plain a s _ (Write n);
-  ended = λ s cut. corresponds_plain a s _ (End cut);
-  released = λ s. corresponds_plain a s _ Release;
-  announced = λ s size. corresponds_plain a s _ (Announcement size);
+  plain = corresponds_plain a;
   responded = grind (arith, responded_between R, sent_either, stand_request a);
   reported =
-      grind (arith, once_between R R, sent_corresponds a, stand_due a, without_first);
+      grind (arith, once_between R R, sent_corresponds a, stand_due a);
 }
 
 -- ---- effects that do not change the pending entries

@@ -5,7 +5,7 @@ use Rattle.std.proofs.Math.Seq.{drop-append_seam}
 use Rattle.coap_model.specs.Prelude.{StreamFault, Stream, stream_after, continued, split_on, ConfigValues, AcceptedCall}
 use Rattle.coap_model.specs.Prelude.{Took, stream_on, spelled_on, beyond, steps_by, later_steps, steps_of, world_after}
 use Rattle.coap_model.proofs.world.StepLaws.{taken_then, later_steps_more, size_then, sizes_then, read_before}
-use Rattle.coap_model.proofs.world.StepLaws.{stream_more, spelled_by, spelled_then}
+use Rattle.coap_model.proofs.world.StepLaws.{stream_more, spelled_then}
 use Rattle.coap_model.proofs.world.TookLaws.{nothing_beyond}
 
 -- ---- only the stream matters
@@ -16,7 +16,7 @@ SpellAlike M es fs = (id : ℕ) → spelled_on M id es ≡ spelled_on M id fs
 
 alike_by : (M : ℕ) (es fs : List AcceptedCall) (e : AcceptedCall) → SpellAlike M es fs
     → SpellAlike M (es ++ e ∷ []) (fs ++ e ∷ [])
-alike_by M es fs e alike id = grind (arith, spelled_then, spelled_by)
+alike_by M es fs e alike id = grind (arith, spelled_then)
 
 pub stream_alike : (M id : ℕ) (es fs : List AcceptedCall) → SpellAlike M es fs → stream_on M id es ≡ stream_on M id fs
 stream_alike M id es fs alike = grind arith

@@ -1,15 +1,14 @@
 -- Facts that hold of every world, and the theorem that no change is lost in it.
-use Rattle.std.proofs.Common.{◌≡◌, ℕ, ◌≤◌, Bool, false, List, [], ◌∷◌, map, Some, refl, arith, ◌&&◌}
+use Rattle.std.proofs.Common.{◌≡◌, ℕ, ◌≤◌, Bool, false, List, [], ◌∷◌, map, Some, refl, arith, ◌&&◌, rules}
 use Rattle.coap_model.specs.Prelude.{AllByRecursion, LimitValues, StoreValue, found_in, Change, Put, Delete, changed}
 use Rattle.coap_model.specs.Prelude.{ConfigValues, Connection, side_after, change_after, side_ended, IsUpToDate}
-use Rattle.coap_model.specs.Prelude.{settled, ConnectionEntry, World, new_world, side_of, stored_after, Step, Handled}
-use Rattle.coap_model.specs.Prelude.{Faulted, Written, acted, settled_place, step, after_steps, AcceptedCall, steps_of}
-use Rattle.coap_model.specs.Prelude.{world_after, takes_messages, normalised_step, received_steps, normalised_steps}
-use Rattle.coap_model.specs.Prelude.{all_settled, on_side}
+use Rattle.coap_model.specs.Prelude.{ConnectionEntry, World, new_world, side_of, stored_after, Step, Handled, acted}
+use Rattle.coap_model.specs.Prelude.{settled_place, step, after_steps, AcceptedCall, steps_of, world_after}
+use Rattle.coap_model.specs.Prelude.{takes_messages, normalised_step, received_steps, normalised_steps, all_settled}
+use Rattle.coap_model.specs.Prelude.{on_side}
 use Rattle.std.proofs.lemmas.Bool.Decides.{nat_tests}
 use Rattle.std.proofs.lemmas.Bool.{leb-true}
-use Rattle.coap_model.specs.world.World.{changed_at, Opened, Ticked, Stored, Removed, Ended, Released, Announced}
-use Rattle.coap_model.specs.world.World.{Responded, Dropped}
+use Rattle.coap_model.specs.world.World.{changed_at, Opened, Ticked, Stored, Removed, Responded, Dropped}
 use Rattle.coap_model.proofs.world.KnownLaws.{still_versioned, IsVersioned}
 use Rattle.coap_model.proofs.world.AcrossLaws.{world_keeps}
 use Rattle.coap_model.proofs.world.EntryLemmas.{all_to, all_append, all_filter, all_map, all_stay}
@@ -49,13 +48,7 @@ on_side_known w id f keeps known =
 -- Any change of the store keeps the facts.
 changed_known : (w : World) (change : Change) → IsKnownWorld w
     → IsKnownWorld (record w { store = changed w.store change })
-changed_known w change known =
-    grind (
-      arith,
-      still_versioned w.store change known.versioned,
-      all_to (IsKnownPlace w.store) (IsKnownPlace (changed w.store change)),
-      still_known_side w.store change,
-    )
+changed_known w change known = search (rules, still_versioned, all_to, still_known_side)
 
 pub acted_known : (limits : LimitValues) (w : World) (s : Step) → IsKnownWorld w → IsKnownWorld (acted limits w s)
 unfolding acted
@@ -67,17 +60,13 @@ acted_known limits w (Handled id m) known =
     (λ found. IsKnownWorld
     (record (on_side id (λ s. side_after w.store w.now s m) w) { store = stored_after w m found }))
     (λ e. after) (λ s e. changed_known _ (change_after w.store w.now s m) after)
-acted_known limits w (Faulted id fault) known = on_side_known w id _ (λ s. plain_known w.store s _ (Fault fault)) known
-acted_known limits w (Written id n) known = on_side_known w id _ (λ s. plain_known w.store s _ (Write n)) known
 acted_known limits w (Ticked now) known = grind (arith, leb-true)
 acted_known limits w (Stored path format bytes) known = grind (arith, changed_known w (Put path format bytes) known)
 acted_known limits w (Removed path) known = changed_known w (Delete path) known
-acted_known limits w (Ended id cut) known = on_side_known w id _ (λ s. plain_known w.store s _ (End cut)) known
-acted_known limits w (Released id) known = on_side_known w id _ (λ s. plain_known w.store s _ Release) known
-acted_known limits w (Announced id size) known =
-    on_side_known w id _ (λ s. plain_known w.store s _ (Announcement size)) known
 acted_known limits w (Responded id m) known = on_side_known w id _ (λ s. responded_known w.store s m) known
 acted_known limits w (Dropped id) known = grind (arith, with_places, all_filter)
+acted_known limits w other known =
+    search (rules, on_side_known, plain_known, Fault, Write, End, Release, Announcement)
 
 step_known : (limits : LimitValues) (w : World) (s : Step) → IsKnownWorld w → IsKnownWorld (step limits w s)
 unfolding step
@@ -92,8 +81,7 @@ pub world_known : (c : ConfigValues) (events : List AcceptedCall) → c.starts.m
     → IsKnownWorld (world_after c events)
 unfolding found_in
 world_known c events small =
-    let versioned : IsVersioned (new_world c).store =
-    record { distinct = tt; numbered = λ path r found. absurd cc; given = λ path r found. absurd cc } in
+    let versioned : IsVersioned (new_world c).store = grind arith in
     world_keeps c IsKnownWorld (step_known c.limits)
     (record { versioned = versioned; moment = small; places = tt }) events
 
@@ -107,7 +95,7 @@ settled_hear : (store : StoreValue) (now : ℕ) (ps : List ConnectionEntry)
     → AllByRecursion (λ p. IsUpToDate store now p.side) (map (settled_place store now) ps)
 settled_hear store now [] = tt
 settled_hear store now (p ∷ ps) =
-    (hears_at_rest store now (settled store now p.side) (settled_rests store now p.side), settled_hear store now ps)
+    (grind (arith, hears_at_rest, settled_rests, settled_hear store now ps))
 
 pub step_hears : (limits : LimitValues) (w : World) (s : Step) → AllHear (step limits w s)
 unfolding step

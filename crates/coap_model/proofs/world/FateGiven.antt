@@ -13,11 +13,11 @@ use Rattle.coap_model.specs.Prelude.{AreAccepted, AreAnswers, AreQueuedInOrder, 
 use Rattle.coap_model.specs.Prelude.{History, IsAccepted, IsUnfit, LimitValues, Message, PeerTooSmall, Reason, Reply}
 use Rattle.coap_model.specs.Prelude.{Step, StoreValue, Unanswered, World, acted, after_steps, answers, bare_response}
 use Rattle.coap_model.specs.Prelude.{due_index, fate_by, fate_of, first_due, fit, fitted, given_in, given_on}
-use Rattle.coap_model.specs.Prelude.{is_unanswered, without_due}
-use Rattle.coap_model.specs.Prelude.{is_unanswered_with, late_message, limit_now, link_of, list_any, new_request}
-use Rattle.coap_model.specs.Prelude.{requests_acted, requests_after, requests_by, requests_on, requests_responded}
-use Rattle.coap_model.specs.Prelude.{requests_then, response_of, response_refusal, responses_to, settled, side_of}
-use Rattle.coap_model.specs.Prelude.{side_responded, steps_by, with_fate, without_request, world_after}
+use Rattle.coap_model.specs.Prelude.{is_unanswered, without_due, is_unanswered_with, late_message, limit_now, link_of}
+use Rattle.coap_model.specs.Prelude.{list_any, new_request, requests_acted, requests_after, requests_by, requests_on}
+use Rattle.coap_model.specs.Prelude.{requests_responded, requests_then, response_of, response_refusal, responses_to}
+use Rattle.coap_model.specs.Prelude.{settled, side_of, side_responded, steps_by, with_fate, without_request}
+use Rattle.coap_model.specs.Prelude.{world_after}
 use Rattle.coap_wire.proofs.NumberLaws.{none_or_some}
 use Rattle.coap_conn.specs.PendingEntries.{is_request_for}
 use Rattle.coap_conn.specs.declared.phase.Phase.TheVariants.{Stopped}
@@ -110,7 +110,7 @@ after_gives store now s m rs = search (rules, cond_both, responses_more, new_giv
 due_gives : (h : History) (token : List ℕ) (moment : ℕ) (rs : List ApplicationRequest)
     → responses_to (with_fate (expires token moment) (fate_by Engine h (late_message Application token)) rs)
     ≡ responses_to rs
-due_gives h token moment rs = search (rules, responses_with, expires, engine_gives, and_parts, waits)
+due_gives h token moment rs = search (rules, responses_with, engine_gives, and_parts, waits)
 
 then_gives : (id : ℕ) (w : World) (rs : List ApplicationRequest)
     → responses_to (requests_then id w rs) ≡ responses_to rs
@@ -252,8 +252,7 @@ module _ (c : ConfigValues) (id : ℕ) where
     other_all e accepted apart =
         let M : ℕ = c.limits.max_message in
         let steps : AllByRecursion (IsOther id) (steps_by M es e) = other_steps id M es e apart in
-        let same : given_on id (es ++ e ∷ []) ≡ given_on id es =
-        given_then id es e ∙ ap (λ ms. given_on id es ++ ms) (other_given id e apart) ∙ append-nil (given_on id es) in
+        let same : given_on id (es ++ e ∷ []) ≡ given_on id es = grind (arith, given_then, other_given, append-nil) in
         record {
           none = λ later. same ∙ is.none (omega (arith, later, ids_later c es e accepted));
           answers_all = λ t there. (
@@ -262,8 +261,7 @@ module _ (c : ConfigValues) (id : ℕ) where
               let were = is.answers_all before.0 before.1 in
               let quiet = (requests_accounted c es id before.0 before.1).quiet in
               let responses : responses_to (requests_on c id (es ++ e ∷ [])) ≡ responses_to rs =
-              ap responses_to (requests_last c id es e)
-              ∙ others_give c.limits id reached_world (steps_by M es e) rs steps in
+              grind (arith, requests_last, others_give) in
               record {
                 order = were.order;
                 same = subst (IsPermutation were.order) (sym responses) were.same;
@@ -280,27 +278,16 @@ module _ (c : ConfigValues) (id : ℕ) where
     opened_all : IsAccepted c es (event.Opened id) → AreAll (es ++ event.Opened id ∷ [])
     unfolding IsAccepted steps_by requests_by requests_acted responses_to
     opened_all accepted =
-        let same : given_on id (es ++ event.Opened id ∷ []) ≡ [] =
-        given_then id es (event.Opened id) ∙ append-nil (given_on id es) ∙ is.none (omega (arith, accepted.0)) in
+        let same : given_on id (es ++ event.Opened id ∷ []) ≡ [] = grind (arith, given_then, append-nil, is.none) in
         let free : side_of id reached_world.sides ≡ None =
         there_or_not (side_of id reached_world.sides) (λ found. found ≡ None) (λ none. refl) (λ s there.
         absurd (omega (arith, accepted.0, (number_given c reached_world id s reached.numbered there).within))) in
         let start : requests_acted id reached_world (world.Opened id) rs ≡ [] = rw (eq-eqb id id refl, free) refl in
         let responses : responses_to (requests_on c id (es ++ event.Opened id ∷ [])) ≡ [] =
-        ap responses_to (requests_last c id es (event.Opened id)) ∙ then_gives id
-        (acted c.limits reached_world (world.Opened id)) (requests_acted id reached_world (world.Opened id) rs)
-        ∙ ap responses_to start in
+        grind (arith, requests_last, then_gives) in
         record {
           none = λ later. same;
-          answers_all = λ t there. record {
-            order = [];
-            same = subst (IsPermutation []) (sym responses) (IsPermutation-refl []);
-            in_order = tt;
-            lost = [];
-            given_are = same;
-            few = omega arith;
-            unfit = tt;
-          };
+          answers_all = λ t there. grind arith;
         }
 
     -- The application responds.
@@ -386,13 +373,17 @@ module _ (c : ConfigValues) (id : ℕ) where
       over_at_once stops = rw (on, allows, stops) ((refl, refl), refl)
 
       over_then : is_unanswered (fate_by Application h m) ≡ true → IsUnfit settled_so.history m
-      over_then none =
-          let stops = none_fits m (fit (limit_now h) m (bare_response m)) (length h.handled) (length h.queued)
-          (rw on at none) in
-          let over = over_at_once stops in
-          let then = settled_between Stays all_stay.composes all_stay.replies all_stay.lets_go all_stay.pongs
-          reached_world.store reached_world.now (side_responded s m) PeerTooSmall over.0 in
-          (rw (then.1, over.1) stops, then.0.1)
+      over_then none = grind (
+        arith,
+        none_fits,
+        on,
+        over_at_once,
+        settled_between,
+        all_stay.composes,
+        all_stay.replies,
+        all_stay.lets_go,
+        all_stay.pongs,
+      )
 
       there_then : side_of id (world_after c (es ++ event.Responded id m ∷ [])).sides ≡ Some settled_so
       unfolding steps_by after_steps world.step acted

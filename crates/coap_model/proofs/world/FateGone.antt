@@ -1,22 +1,21 @@
 -- A connection that does not exist has no requests, or it was dropped and its requests are those before the drop.
-use Rattle.std.proofs.Common.{Bool, List, None, Some, [], ap, arith, cond, inl, inr, map, option_map, refl, rules}
-use Rattle.std.proofs.Common.{subst, sym, ℕ, ◌++◌, ◌∙◌, ◌∷◌, ◌≡◌, ◌≢◌}
-use Rattle.std.proofs.lemmas.Bool.{cases_eq, cond_both, ne_eqb}
+use Rattle.std.proofs.Common.{List, None, Some, [], ap, arith, inl, inr, map, refl, rules, subst, sym, ℕ, ◌++◌, ◌∙◌}
+use Rattle.std.proofs.Common.{◌∷◌, ◌≡◌, ◌≢◌}
+use Rattle.std.proofs.lemmas.Bool.{cases_eq, ne_eqb}
 use Rattle.std.proofs.lemmas.List.{append-nil}
 use Rattle.std.proofs.lemmas.Grind.{common_steps}
 use Rattle.coap_model.specs.Prelude.{AcceptedCall, AllByRecursion, ApplicationRequest, AreAccepted, ConfigValues}
 use Rattle.coap_model.specs.Prelude.{Connection, ConnectionEntry, IsAccepted, IsGone, LimitValues, Step, WasDropped}
-use Rattle.coap_model.specs.Prelude.{World, acted, after_steps, given_in, given_on, if_there, later_steps}
-use Rattle.coap_model.specs.Prelude.{new_side, put_in, requests_acted, requests_by, requests_on, requests_settled}
-use Rattle.coap_model.specs.Prelude.{requests_then, settled, side_of, steps_by, steps_of, world_after}
-use Rattle.coap_model.specs.world.World.{changed_at}
+use Rattle.coap_model.specs.Prelude.{World, acted, after_steps, given_in, given_on, if_there, later_steps, new_side}
+use Rattle.coap_model.specs.Prelude.{requests_acted, requests_by, requests_on, requests_settled, requests_then, settled}
+use Rattle.coap_model.specs.Prelude.{side_of, steps_by, steps_of, world_after}
 use Rattle.coap_wire.proofs.NumberLaws.{none_or_some}
 use Rattle.coap_model.specs.world.Events as event
 use Rattle.coap_model.specs.world.World as world
 use Rattle.coap_model.proofs.OptionLemmas.{none_made}
 use Rattle.coap_model.proofs.world.WalkLaws.{there_or_not}
-use Rattle.coap_model.proofs.world.PlaceLaws.{all_there, but, changed_elsewhere, changed_here, dropped_elsewhere}
-use Rattle.coap_model.proofs.world.PlaceLaws.{dropped_here, none_mapped, other_more, still_there}
+use Rattle.coap_model.proofs.world.PlaceLaws.{all_there, first_there, later_there, dropped_elsewhere, dropped_here}
+use Rattle.coap_model.proofs.world.PlaceLaws.{none_mapped, other_more, still_there}
 use Rattle.coap_model.proofs.world.AcrossLaws.{opened_there}
 use Rattle.coap_model.proofs.world.StepLaws.{by_events, each_beyond, world_more, world_step}
 use Rattle.coap_model.proofs.world.ReachedLaws.{on_one, step_keeps}
@@ -32,16 +31,14 @@ OpensNot id other = Unit {0}
 
 step_gone : (limits : LimitValues) (id : ℕ) (w : World) (st : Step) → OpensNot id st → side_of id w.sides ≡ None
     → side_of id (world.step limits w st).sides ≡ None
-step_gone limits id w st apart none = step_keeps (λ v. side_of id v.sides ≡ None) limits w none st (record {
-  opened = λ other is free.
-      other_more id w.sides (record { id = other; side = new_side limits }) (subst (OpensNot id) is apart) ∙ none;
-  changed = λ v g keeps still. none_mapped id g keeps v.sides still;
-  reported = λ v store now still. still;
-  dropped = λ other. elim (cases_eq other id) [
-    | inl here ↦ ap (λ (n : ℕ). side_of id (but n w.sides)) here ∙ dropped_here id w.sides
-    | inr away ↦ dropped_elsewhere other id w.sides away ∙ none
-  ];
-})
+step_gone limits id w st apart none = step_keeps (λ v. side_of id v.sides ≡ None) limits w none st (grind (
+  arith,
+  other_more,
+  none_mapped,
+  cases_eq,
+  dropped_here,
+  dropped_elsewhere,
+))
 
 acted_gone : (limits : LimitValues) (id : ℕ) (w : World) (st : Step) → OpensNot id st → side_of id w.sides ≡ None
     → side_of id (acted limits w st).sides ≡ None
@@ -84,43 +81,26 @@ DropsNot id other = Unit {0}
 abbrev Exists : ℕ → List ConnectionEntry → Type 0
 Exists id sides = (s : Connection) × (side_of id sides ≡ Some s)
 
-module _ (limits : LimitValues) (id : ℕ) (w : World) (is : Exists id w.sides) where
-  changed_exists : (at : ℕ) (f : Connection → Connection) → Exists id (map (changed_at at f) w.sides)
-  changed_exists at f = elim (cases_eq at id) [
-    | inl here ↦ (f is.0, rw here (changed_here id f w.sides ∙ ap (option_map f) is.1))
-    | inr apart ↦ (is.0, changed_elsewhere at id f w.sides apart ∙ is.1)
-  ]
+some_mapped : (id : ℕ) (g : ConnectionEntry → ConnectionEntry) → ((p : ConnectionEntry) → (g p).id ≡ p.id)
+    → (ps : List ConnectionEntry) → Exists id ps → Exists id (map g ps)
+unfolding side_of
+some_mapped id g keeps [] is = absurd cc
+some_mapped id g keeps (p ∷ ps) is = elim (cases_eq p.id id) [
+  | inl here ↦ ((g p).side, first_there id (g p) (map g ps) (keeps p ∙ here))
+  | inr apart ↦ grind (arith, later_there, some_mapped id g keeps ps)
+]
 
-  if_exists : (does : Bool) (v : World) → Exists id v.sides → Exists id (cond does v w).sides
-  if_exists does v so = cond_both does v w (λ (u : World). Exists id u.sides) (λ e. so) (λ e. is)
-
-  acted_exists : (st : Step) → DropsNot id st → Exists id (acted limits w st).sides
-  unfolding acted
-  acted_exists (world.Opened other) stays = if_exists _ _ (is.0, still_there id is.0 w.sides _ is.1)
-  acted_exists (world.Handled at m) stays = changed_exists at _
-  acted_exists (world.Faulted at fault) stays = changed_exists at _
-  acted_exists (world.Written at n) stays = changed_exists at _
-  acted_exists (world.Ticked now) stays = if_exists _ (record w { now = now }) is
-  acted_exists (world.Stored path format bytes) stays =
-      if_exists _ (record w { store = put_in w.store path format bytes }) is
-  acted_exists (world.Removed path) stays = is
-  acted_exists (world.Ended at cut) stays = changed_exists at _
-  acted_exists (world.Released at) stays = changed_exists at _
-  acted_exists (world.Announced at size) stays = changed_exists at _
-  acted_exists (world.Responded at m) stays = changed_exists at _
-  acted_exists (world.Dropped other) stays = (is.0, dropped_elsewhere other id w.sides stays ∙ is.1)
+step_exists : (limits : LimitValues) (id : ℕ) (w : World) (st : Step) → DropsNot id st → Exists id w.sides
+    → Exists id (world.step limits w st).sides
+step_exists limits id w st stays is =
+    step_keeps (λ v. Exists id v.sides) limits w is st (grind (arith, still_there, some_mapped, dropped_elsewhere))
 
 steps_exist : (limits : LimitValues) (id : ℕ) (w : World) (ss : List Step) → AllByRecursion (DropsNot id) ss
     → Exists id w.sides → Exists id (after_steps limits w ss).sides
-unfolding after_steps world.step
+unfolding after_steps
 steps_exist limits id w [] stays is = is
 steps_exist limits id w (s ∷ ss) stays is =
-    let did : World = acted limits w s in
-    let made = acted_exists limits id w is s stays.0 in
-    steps_exist limits id (world.step limits w s) ss stays.1 (
-      settled did.store did.now made.0,
-      all_there id (settled did.store did.now) did.sides ∙ ap (option_map (settled did.store did.now)) made.1,
-    )
+    steps_exist limits id (world.step limits w s) ss stays.1 (step_exists limits id w s stays.0 is)
 
 -- ---- events
 
@@ -204,8 +184,7 @@ module _ (c : ConfigValues) (id : ℕ) where
     now_gone : (e : AcceptedCall) (s : Connection) → side_of id w.sides ≡ Some s
         → side_of id (world_after c (es ++ e ∷ [])).sides ≡ None → IsGone c id (es ++ e ∷ [])
     now_gone (event.Dropped other) s there gone = elim (cases_eq other id) [
-      | inl here ↦
-          inr (subst (λ (n : ℕ). WasDropped c id (es ++ event.Dropped n ∷ [])) (sym here) (just_dropped s there))
+      | inl here ↦ grind (arith, just_dropped)
       | inr apart ↦ absurd (never_gone (event.Dropped other) s there apart gone)
     ]
     now_gone e s there gone = absurd (never_gone e s there tt gone)

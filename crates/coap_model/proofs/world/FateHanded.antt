@@ -9,12 +9,12 @@ use Rattle.std.specs.List.{flat_map}
 use Rattle.coap_model.specs.Prelude.{AFault, AFrame, AcceptedCall, AllByRecursion, Application, ApplicationRequest}
 use Rattle.coap_model.specs.Prelude.{AreAccepted, ConfigValues, Connection, Delay, Engine, Fate, FormatFault}
 use Rattle.coap_model.specs.Prelude.{FrameEventValue, History, IsAccepted, LimitValues, Message, Step, StoreValue}
-use Rattle.coap_model.specs.Prelude.{StreamFault, Took, World, after_steps, answer_of, asks_answer, delay_by}
-use Rattle.coap_model.specs.Prelude.{delay_for, delay_or, frame_then, handed_between, handed_in, handed_requests}
-use Rattle.coap_model.specs.Prelude.{handles, if_there, is_asking, is_by_application, may_hold, message_of, new_request}
-use Rattle.coap_model.specs.Prelude.{requests_acted, requests_after, requests_by, requests_on, requests_responded}
-use Rattle.coap_model.specs.Prelude.{requests_then, settled, side_after, side_faulted, side_of, size_on, steps_by}
-use Rattle.coap_model.specs.Prelude.{stream_on, takes, with_fate, world_after}
+use Rattle.coap_model.specs.Prelude.{StreamFault, Took, World, after_steps, answer_of, asks_answer, delay_by, delay_for}
+use Rattle.coap_model.specs.Prelude.{delay_or, frame_then, handed_between, handed_in, handed_requests, handles}
+use Rattle.coap_model.specs.Prelude.{is_asking, is_by_application, may_hold, message_of, new_request, requests_acted}
+use Rattle.coap_model.specs.Prelude.{requests_after, requests_by, requests_on, requests_responded, requests_then}
+use Rattle.coap_model.specs.Prelude.{settled, side_after, side_faulted, side_of, size_on, steps_by, stream_on, takes}
+use Rattle.coap_model.specs.Prelude.{with_fate, world_after}
 use Rattle.coap_model.specs.world.Events.{front_of}
 use Rattle.coap_frame.specs.Framing.{Nothing}
 use Rattle.coap_frame.proofs.FrontLaws.{added_by}
@@ -167,8 +167,7 @@ module _ (c : ConfigValues) (es : List AcceptedCall) (id : ℕ) (e : AcceptedCal
       same_there made t (sym (ap (λ (v : World). side_of id v.sides) (world_step c es e (world.Faulted id fault) one)
       ∙ faulted_there c.limits w id fault s there) ∙ then) in
       quiet_hands
-      (ap (λ (u : Connection). u.history.handled) (sym same)
-      ∙ (settled_handles_none w.store w.now (side_faulted s fault)).handled ∙ (side_rejects s fault does).handled)
+      (grind (arith, settled_handles_none, side_rejects))
       (one_step (world.Faulted id fault) one)
 
   message_hands : (m : Message) → handles s ≡ true → steps_by M es e ≡ world.Handled id m ∷ [] → HandsThose
@@ -176,21 +175,14 @@ module _ (c : ConfigValues) (es : List AcceptedCall) (id : ℕ) (e : AcceptedCal
   message_hands m does one =
       let after = handled_there c.limits w id m s there in
       let made : Connection = settled after.0 w.now (side_after w.store w.now s m) in
-      let same : made ≡ t =
-      same_there made t
-      (sym (ap (λ (v : World). side_of id v.sides) (world_step c es e (world.Handled id m) one) ∙ after.1) ∙ then) in
+      let same : made ≡ t = grind (arith, same_there, world_step, one) in
       let received : HasReceived w.store.applications m s.history (side_after w.store w.now s m).history =
       rw does (handled_hears w.store w.now s m) in
       let handled : t.history.handled ≡ s.history.handled ++ m ∷ [] =
-      ap (λ (u : Connection). u.history.handled) (sym same)
-      ∙ (settled_handles_none after.0 w.now (side_after w.store w.now s m)).handled
-      ∙ received.handled_more (handles_parts s does).0 in
-      let since : drop (length s.history.handled) t.history.handled ≡ m ∷ [] =
-      ap (drop (length s.history.handled)) handled ∙ drop-append_seam s.history.handled (m ∷ []) in
+      grind (arith, settled_handles_none, handles_parts) in
+      let since : drop (length s.history.handled) t.history.handled ≡ m ∷ [] = grind (arith, drop-append_seam) in
       let requests : requests_acted id w (world.Handled id m) rs ≡ requests_after w.store w.now s m rs =
-      ap (λ b. cond b (if_there (side_of id w.sides) (λ u. requests_after w.store w.now u m) rs) rs)
-      (eq-eqb id id refl)
-      ∙ ap (λ o. if_there o (λ u. requests_after w.store w.now u m) rs) there in
+      grind (arith, eq-eqb) in
       one_step (world.Handled id m) one ∙ ap handed_requests requests ∙ after_hands w.store w.now s m rs does
       ∙ ap (λ ms. handed_requests rs ++ ms) (sym (append-nil (handed_in w.store w.now s m)))
       ∙ ap (λ ms. handed_requests rs ++ flat_map (handed_in w.store w.now s) ms) (sym since)
@@ -229,10 +221,7 @@ module _ (c : ConfigValues) (es : List AcceptedCall) (id : ℕ) (bytes : List �
         | inl does ↦
             found_hands _ does
             (adds_frame size id es bytes (handling_goes_on c es id s reached there does) (rw does at taken))
-        | inr stopped ↦ (
-            let none : bytes ≡ [] = nil_from_length bytes (sym (rw stopped at taken)) in
-            no_step c es id (Took id bytes) s t reached there
-            then (ap (λ bs. steps_by size es (Took id bs)) none ∙ no_bytes_steps size id es))
+        | inr stopped ↦ (grind (arith, nil_from_length, no_step, no_bytes_steps))
       ]
 
 -- ---- any event

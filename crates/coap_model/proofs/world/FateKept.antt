@@ -9,21 +9,19 @@ use Rattle.std.proofs.lemmas.List.Elements.{filter-append}
 use lib.Pointwise.{bytes_decides}
 use Rattle.coap_model.specs.Prelude.{AcceptedCall, AllByRecursion, Answer, Application, ApplicationRequest}
 use Rattle.coap_model.specs.Prelude.{ApplicationsValue, ConfigValues, Connection, Delay, Engine, Fate, HasFate}
-use Rattle.coap_model.specs.Prelude.{HasOnlyAnswer, History, LimitValues, Message, Observer, PeerTooSmall}
-use Rattle.coap_model.specs.Prelude.{PendingEntryValue, Phase, Pong, Reaction, ReactionResult, Reason, ReleasedHere}
-use Rattle.coap_model.specs.Prelude.{Server, StoreValue, Unanswered, after, after_sent, answers}
-use Rattle.coap_model.specs.Prelude.{application_deadline, asks_answer, asks_delayed, awaits, bare_response, delay_for}
-use Rattle.coap_model.specs.Prelude.{delay_of, end_reason, entry_for, fate_by, first_due, first_fate, fit, handles}
-use Rattle.coap_model.specs.Prelude.{has_place, has_stopped, hold_call, is_asking, is_due, is_for_application}
-use Rattle.coap_model.specs.Prelude.{is_of_application, is_open, is_unanswered, is_unanswered_with, is_whole}
+use Rattle.coap_model.specs.Prelude.{HasOnlyAnswer, History, LimitValues, Message, Observer, PendingEntryValue, Phase}
+use Rattle.coap_model.specs.Prelude.{Pong, Reaction, ReactionResult, Reason, ReleasedHere, Server, StoreValue}
+use Rattle.coap_model.specs.Prelude.{Unanswered, after, after_sent, answers, application_deadline, asks_answer, awaits}
+use Rattle.coap_model.specs.Prelude.{bare_response, delay_for, delay_of, end_reason, fate_by, first_due, first_fate}
+use Rattle.coap_model.specs.Prelude.{fit, handles, has_place, has_stopped, hold_call, is_asking, is_due}
+use Rattle.coap_model.specs.Prelude.{is_for_application, is_of_application, is_open, is_unanswered, is_unanswered_with}
 use Rattle.coap_model.specs.Prelude.{late_message, left_of, limit_now, link_of, list_any, may_hold, messages_of}
 use Rattle.coap_model.specs.Prelude.{moment_after, new_request, next_due, next_pending, notification}
-use Rattle.coap_model.specs.Prelude.{notification_message, notified, own_csm, pong_with, prompt_answer, react}
-use Rattle.coap_model.specs.Prelude.{reaction_unless, refusal_of, reject_reason, release, requests_after, requests_due}
-use Rattle.coap_model.specs.Prelude.{requests_on, requests_once, requests_responded, responds, response_refusal}
-use Rattle.coap_model.specs.Prelude.{response_with_observe, same_bytes, send, settled_once, side_after, side_announced}
-use Rattle.coap_model.specs.Prelude.{side_answered, side_ended, side_faulted, side_handled, side_of, side_released}
-use Rattle.coap_model.specs.Prelude.{side_responded, side_with, side_written, state_now, stop, stop_of}
+use Rattle.coap_model.specs.Prelude.{notification_message, notified, own_csm, pong_with, react, reaction_unless}
+use Rattle.coap_model.specs.Prelude.{refusal_of, reject_reason, release, requests_after, requests_due, requests_on}
+use Rattle.coap_model.specs.Prelude.{requests_once, requests_responded, responds, response_refusal}
+use Rattle.coap_model.specs.Prelude.{response_with_observe, same_bytes, send, settled_once, side_after, side_answered}
+use Rattle.coap_model.specs.Prelude.{side_handled, side_of, side_responded, side_with, state_now, stop, stop_of}
 use Rattle.coap_model.specs.Prelude.{takes_messages, with_effect, with_history, without_due, without_request}
 use Rattle.coap_model.specs.Prelude.{without_token, world_after}
 use Rattle.coap_store.proofs.ApplicationLaws.{prompt_handed}
@@ -35,12 +33,10 @@ use Rattle.coap_conn.proofs.AskingLaws.{none_where}
 use Rattle.coap_conn.specs.Calls as call
 use Rattle.coap_store.specs.Answer as answer
 use Rattle.coap_model.proofs.world.CustodyLaws.{handled_cases, pending_where, request_quiet}
-use Rattle.coap_model.proofs.world.WalkLaws.{HoldsOfCalls, announced_between, answer_goes, due_is, ended_between}
-use Rattle.coap_model.proofs.world.WalkLaws.{faulted_between, holding, kept_open_has, observers_kept, pending_is}
-use Rattle.coap_model.proofs.world.WalkLaws.{received, released_between, said_request, sent, there_or_not}
-use Rattle.coap_model.proofs.world.WalkLaws.{without_first, written_between}
-use Rattle.coap_model.proofs.world.QueuedMessages.{Queues, open_answers, reply_either, reply_queues, sent_all}
-use Rattle.coap_model.proofs.world.QueuedMessages.{NoneAsk, sent_either}
+use Rattle.coap_model.proofs.world.WalkLaws.{answer_goes, due_is, holding, kept_open_has, observers_plain, pending_is}
+use Rattle.coap_model.proofs.world.WalkLaws.{plain_between, received, said_request, sent, there_or_not, without_first}
+use Rattle.coap_model.proofs.world.QueuedMessages.{Queues, open_answers, reply_either, reply_queues, sent_all, NoneAsk}
+use Rattle.coap_model.proofs.world.QueuedMessages.{sent_either}
 use Rattle.coap_model.proofs.world.LastNotificationLaws.{HaveOtherTokens, filter_others}
 use Rattle.coap_model.proofs.world.RespondedLaws.{allowed, answered_request, plain_codes}
 use Rattle.coap_model.proofs.world.EntryLemmas.{all_append, all_become, all_entered, all_filter, all_to, found_all}
@@ -82,13 +78,7 @@ stays_plain : (h k : History) (more : List Message) → k.queued ≡ h.queued ++
     → (k.limits ≡ h.limits) × (k.role ≡ h.role) → k.handled ≡ h.handled → k.pending ≡ h.pending → k.phase ≡ h.phase
     → IsPlainOver h k
 stays_plain h k more queued plain fixed handled pending phase = record {
-  extends = record {
-    fixed = fixed;
-    handled = handled ∙ sym (append-nil h.handled);
-    more = more;
-    queued = queued;
-    running = λ on. rw phase at on;
-  };
+  extends = grind (arith, append-nil);
   plain = plain;
   pending = rw (pending, phase) (pending_same h.pending h.phase);
   engine = λ token none. rw pending none;
@@ -100,13 +90,7 @@ same_plain h = stays_plain h h [] (sym (append-nil h.queued)) tt (refl, refl) re
 stops_plain : (h : History) (why : Reason) (farewell : List Message) → AllByRecursion IsPlain farewell
     → IsPlainOver h (with_effect h (stop (state_now h) why farewell))
 stops_plain h why farewell plain = record {
-  extends = record {
-    fixed = (refl, refl);
-    handled = sym (append-nil h.handled);
-    more = farewell;
-    queued = refl;
-    running = λ on. absurd cc;
-  };
+  extends = grind (arith, append-nil);
   plain = plain;
   pending = pending_over h.pending h.phase why;
   engine = λ token none. tt;
@@ -136,10 +120,7 @@ response_next h m none =
       may = λ r passes handed. (handed, sym (has_token m.token r passes).1, is.plain);
       of_application = request_of_application m.token;
       some = is.requested;
-      left_is = ap (without_passing (is_request_for m.token)) first.there
-          ∙ without_found (is_request_for m.token) first.before (Answer Application m.token first.moment) first.after
-          first.earliest ((bytes_decides m.token m.token).1 refl)
-          ∙ sym first.without;
+      left_is = grind (arith, without_passing, without_found, bytes_decides);
       codes = plain_codes m is.plain;
     }
 
@@ -156,25 +137,17 @@ deadline_next : (h : History) (now : ℕ) (token : List ℕ) (moment : ℕ)
 deadline_next h now token moment is =
     let first = due_answer now h.pending Application token moment is in
     let entry : PendingEntryValue → Bool = λ e. is_request_for token e && is_answer_at moment e in
-    let due : entry (Answer Application token moment) ≡ true =
-    and_from _ _ ((bytes_decides token token).1 refl) (eq-eqb moment moment refl) in
+    let due : entry (Answer Application token moment) ≡ true = grind (arith, and_from, bytes_decides, eq-eqb) in
     let passing : (r : ApplicationRequest) → expires token moment r ≡ true
     → (waits r ≡ true) × (r.request.token ≡ token) =
     λ r so. has_token token r (and_parts (is_unanswered_with token r) _ so).0 in
     record {
       passing = passing;
       same = λ r so. rw so refl;
-      may = λ r so handed. (
-        (λ is. ap (late_message Application) (sym (passing r so).1)),
-        (λ other. absurd cc),
-      );
+      may = λ r so handed. grind arith;
       of_application = λ e so. request_of_application token e (and_parts (is_request_for token e) _ so).0;
       some = grind (arith, first.there, due, list_any-append);
-      left_is = ap (without_passing entry) first.there
-          ∙ without_found entry first.before (Answer Application token moment) first.after
-          (all_to (λ e. is_answer_at moment e ≡ false) (λ e. entry e ≡ false) (λ e other. grind arith)
-          first.before first.earliest) due
-          ∙ sym first.without;
+      left_is = grind (arith, without_passing, without_found, all_to);
       codes = (refl, refl);
     }
 
@@ -220,25 +193,12 @@ module _ (a : Option ApplicationsValue) where
         let k : History = after g (call.Reply m) in
         let queues : Queues (λ n. n.token ≡ m.token) g k = reply_queues g m in
         let still : StillPending s.history.pending s.history.phase k.pending k.phase =
-        reply_either g m (λ ms es p. StillPending s.history.pending s.history.phase es p) pending
-        (pending_over s.history.pending s.history.phase PeerTooSmall) in
+        grind (arith, reply_either, pending_over) in
         record {
           received = received;
           none = none;
-          extends = record {
-            fixed = cond_both (answers g.phase) _ g
-                (λ (f : History). (f.limits ≡ s.history.limits) × (f.role ≡ s.history.role))
-                (λ on. fixed) (λ off. fixed);
-            handled = reply_either g m (λ ms es p. ms ≡ s.history.handled ++ received) handled handled;
-            more = queues.more;
-            queued = queues.same ∙ ap (λ ms. ms ++ queues.more) queued;
-            running = λ on. (still.running on).0;
-          };
-          spares = λ token asks calm. (
-              let is = apart token asks calm in (
-                calm_so token k os is.0 (reply_either g m (λ ms es p. NoEngine token es) is.1 tt),
-                none_respond token m.token queues.more is.2 queues.such,
-              ));
+          extends = grind (arith, cond_both, reply_either, received);
+          spares = λ token asks calm. grind (arith, calm_so, reply_either, none_respond);
           pending = still;
         }
 
@@ -247,16 +207,12 @@ module _ (a : Option ApplicationsValue) where
       → Passes a s (with_history s (after_sent s.history now (Answer Engine own moment)))
   engine_passes s now own moment is =
       let h : History = s.history in
-      let e : PendingEntryValue = Answer Engine own moment in
       let first = due_answer now h.pending Engine own moment is in
       subst (λ g. Passes a s (with_history s (after g (call.Reply (late_message Engine own)))))
       (sym (answer_goes h now Engine own moment is))
       (reply_passes s [] refl (without_first h now) (refl, refl) (sym (append-nil h.handled)) refl
-      (pending_gone first.before e first.after h.phase h.pending (without_due now h.pending) first.there
-      first.without refl)
-      (late_message Engine own) s.observers (λ token none calm.
-      let due = no_engine_without token first.before e first.after (subst (NoEngine token) first.there calm.engine) in
-      (calm.others, subst (NoEngine token) (sym first.without) due.1, due.0)))
+      (grind (arith, pending_gone))
+      (late_message Engine own) s.observers (λ token none calm. grind (arith, no_engine_without)))
 
   pong_passes : (s : Connection) (now : ℕ) (own : List ℕ) → first_due now s.history.pending ≡ Some (Pong own)
       → Passes a s (with_history s (after s.history (call.Due now)))
@@ -266,27 +222,14 @@ module _ (a : Option ApplicationsValue) where
       let there = due_pong now h.pending own is in
       let m : Message = pong_with true own in
       let less : Message = pong_with false own in
-      let pending : StillPending h.pending h.phase g.pending g.phase =
-      pending_gone [] (Pong own) g.pending h.phase h.pending g.pending there refl refl in
+      let pending : StillPending h.pending h.phase g.pending g.phase = grind (arith, pending_gone) in
       let still : StillPending h.pending h.phase (sent g m less).pending (sent g m less).phase =
-      sent_either (state_now g) m less (fit (limit_now g) m less) (λ es p. StillPending h.pending h.phase es p) pending
-      (pending_over h.pending h.phase PeerTooSmall) in
+      grind (arith, sent_either, pending_over) in
       subst (λ k. Passes a s (with_history s k)) (sym (due_is h now (Some (Pong own)) is)) (record {
         received = [];
         none = refl;
-        extends = record {
-          fixed = (refl, refl);
-          handled = sym (append-nil h.handled);
-          more = _;
-          queued = refl;
-          running = λ on. (still.running on).0;
-        };
-        spares = λ token none calm. (
-          calm_so token (sent g m less) s.observers calm.others
-              (sent_either (state_now g) m less (fit (limit_now g) m less) (λ es p. NoEngine token es)
-              (subst (NoEngine token) there calm.engine).1 tt),
-          no_response token _ (sent_all IsNoResponse (state_now g) m less (fit (limit_now g) m less) refl refl),
-        );
+        extends = grind (arith, append-nil);
+        spares = λ token none calm. grind (arith, calm_so, sent, calm.others, sent_either, no_response, sent_all);
         pending = still;
       })
 
@@ -338,8 +281,7 @@ module _ (a : Option ApplicationsValue) where
       let m : Message = late_message Application token in
       let g : History = without_first h now in
       let same : after_sent h now (Answer Application token moment) ≡ sent g m (bare_response m) =
-      ap (λ f. after f (call.Reply m)) (answer_goes h now Application token moment is)
-      ∙ cond-true (answers h.phase) (sent g m (bare_response m)) g on in
+      grind (arith, answer_goes, cond-true, sent) in
       subst (λ k. Accounted a (with_history s k) (requests_due s (Some (Answer Application token moment)) rs))
       (sym same)
       (answer_keeps a s rs (expires token moment) _ Engine m (without_due now h.pending)
@@ -513,7 +455,7 @@ module _ (store : StoreValue) (now : ℕ) (s : Connection) (m : Message) (server
     late_spares : (e : PendingEntryValue)
         → ((token : List ℕ) → same_bytes m.token token ≡ false → is_engine_for token e ≡ false) → (token : List ℕ)
         → Spares (m ∷ []) s (side_with (with_late e) others) [] token
-    late_spares e new token none calm = search (rules, calm_so, others_left, all_append, is_engine_for, other_token)
+    late_spares e new token none calm = search (rules, calm_so, others_left, all_append, other_token)
 
     engine_late : (moment : ℕ) → is_for_application a m ≡ false
         → Passes a s (side_with (with_late (Answer Engine m.token moment)) others)
@@ -522,10 +464,7 @@ module _ (store : StoreValue) (now : ℕ) (s : Connection) (m : Message) (server
       none = rw other refl;
       extends = late_extends (Answer Engine m.token moment);
       spares = late_spares (Answer Engine m.token moment) (λ token apart. apart);
-      pending = record {
-        running = λ live. (on_before, rw (is.pending, filter-append, append-nil) refl);
-        quiet = λ quiet off. absurd (cc on);
-      };
+      pending = grind (arith, on_before, filter-append, append-nil, on);
     }
 
     pending_adds : (seconds : ℕ) → may_hold (after_message s m) ≡ true
@@ -533,15 +472,13 @@ module _ (store : StoreValue) (now : ℕ) (s : Connection) (m : Message) (server
         (request_with now s m seconds Unanswered)
     pending_adds seconds may = record {
       extends = late_extends (Answer Application m.token (moment_after now seconds));
-      spares = late_spares (Answer Application m.token (moment_after now seconds)) (λ token apart. refl);
+      spares = search (rules, late_spares);
       has = tt;
       new = tt;
       pending = λ on. rw (is.pending, filter-append) refl;
       handed = λ on waiting. and_from (asks_answer s m) (may_hold (after_message s m)) asks may;
       quiet = λ quiet off. absurd (cc on);
-      calm = λ apart. calm_so m.token (with_late (Answer Application m.token (moment_after now seconds))) others
-          others_none (all_append (λ f. is_engine_for m.token f ≡ false) g.pending _
-          (rw is.pending (no_engine_awaits m.token h.pending apart)) (refl, tt));
+      calm = λ apart. search (rules, calm_so, others_none, all_append, is.pending, no_engine_awaits);
       only = refl;
     }
 
@@ -551,19 +488,16 @@ module _ (store : StoreValue) (now : ℕ) (s : Connection) (m : Message) (server
         let observes : Bool = has_place g.limits.observers others r.watch in
         let response : Message = response_with_observe m.token observes r.response in
         reply_passes a s (m ∷ []) (rw other refl) g is.fixed is.handled is.queued
-        (rw is.pending (record {
-          running = λ live. (on_before, refl);
-          quiet = λ quiet off. absurd (cc on);
-        }))
-        response _ (λ token none calm. (
-        let apart = other_token token none in (
-          all_entered (λ o. token ≢ o.token)
-              (observes && is_whole (fit (limit_now g) response (bare_response response))) others
-              (entry_for store now m) (others_left token calm.others)
-              (λ enters same. both_ways (same_bytes m.token token) apart ((bytes_decides m.token token).1 (sym same))),
-          rw is.pending calm.engine,
-          apart,
-        )))
+        (grind (arith, is.pending, on_before, on))
+        response _ (λ token none calm. grind (
+          arith,
+          other_token,
+          all_entered,
+          others_left,
+          both_ways,
+          bytes_decides,
+          is.pending,
+        ))
 
     -- The list is full.
     refused_adds : (seconds : ℕ) → may_hold (after_message s m) ≡ false
@@ -575,8 +509,7 @@ module _ (store : StoreValue) (now : ℕ) (s : Connection) (m : Message) (server
         let e : ReactionResult = send (state_now g) response (bare_response response) in
         let k : History = with_effect g e in
         let sent : IsSent g Engine response g.pending e fate = sent_so g Engine response g.pending (refl, refl) on in
-        let more : k.queued ≡ h.queued ++ messages_of fate =
-        ap (λ ms. g.queued ++ ms) sent.queued ∙ ap (λ ms. ms ++ messages_of fate) is.queued in
+        let more : k.queued ≡ h.queued ++ messages_of fate = grind arith in
         let apart : (asks_answer s m && may_hold (after_message s m)) ≡ false = grind (arith, full) in
         subst (λ b. AddsRequest s (side_with (cond b k g) others) (request_with now s m seconds fate))
         (sym on) (record {
@@ -587,11 +520,16 @@ module _ (store : StoreValue) (now : ℕ) (s : Connection) (m : Message) (server
             queued = more;
             running = λ live. on_before;
           };
-          spares = λ token none calm. (
-            calm_so token k others (others_left token calm.others) (sent.engine token (rw is.pending calm.engine)),
-            none_respond token m.token (messages_of fate) (other_token token none)
-                (all_to _ (λ n. n.token ≡ m.token) (λ n so. so.1) (messages_of fate) sent.responses),
-          );
+          spares = λ token none calm. (grind (
+            arith,
+            calm_so,
+            others_left,
+            sent.engine,
+            is.pending,
+            none_respond,
+            other_token,
+            all_to,
+          ));
           has = sent.has (request_with now s m seconds fate)
               ((λ handed. absurd (cc apart)), (λ none. (refl, ap length is.queued)))
               (omega (arith, ap length is.queued))
@@ -603,8 +541,7 @@ module _ (store : StoreValue) (now : ℕ) (s : Connection) (m : Message) (server
           calm = λ alone. calm_so m.token k others others_none
               (sent.engine m.token (rw is.pending (no_engine_awaits m.token h.pending alone)));
           only = filter_whole (responds m.token) (messages_of fate)
-              (all_to _ (λ n. responds m.token n ≡ true)
-              (λ n is. and_from _ _ is.0 ((bytes_decides n.token m.token).1 is.1)) (messages_of fate) sent.responses);
+              (grind (arith, all_to, and_from, bytes_decides));
         })
 
   requested : asks_answer s m ≡ true → IsRequested h m (after_message s m)
@@ -612,14 +549,15 @@ module _ (store : StoreValue) (now : ℕ) (s : Connection) (m : Message) (server
 
   handled_passes : is_for_application a m ≡ false → Passes a s (side_handled store now s m)
   handled_passes other =
-      handled_cases store now s m (Passes a s) (λ none. rw live (other_passes other)) (λ asks by moment.
-      elim by as (λ by. asks_delayed a by m ≡ true → Passes a s
-      (side_with (holding (after_message s m) ((after_message s m).pending ++ Answer by m.token moment ∷ [])) others)) [
-        | Engine ↦ λ delayed. engine_late asks (after_message s m) (requested asks) moment other
-        | Application ↦ λ for. absurd (both_ways (is_for_application a m) other
-            (and_from (is_asking m) _ (answered_is_request (state_now h) m asks) for))
-      ])
-      (λ asks. prompt_passes asks (after_message s m) (requested asks) (prompt_answer store now m) other)
+      handled_cases store now s m (Passes a s) (λ none. rw live (other_passes other)) (λ asks by moment. grind (
+        arith,
+        engine_late,
+        requested,
+        both_ways,
+        and_from,
+        answered_is_request,
+      ))
+      (λ asks. grind (arith, prompt_passes, requested))
 
   no_place : (f : History) (d : Delay) → delay_for f (Some d) ≡ None → may_hold f ≡ false
   no_place f d none = grind arith
@@ -632,8 +570,7 @@ module _ (store : StoreValue) (now : ℕ) (s : Connection) (m : Message) (server
       let IsAdded : Connection → Type 0 = λ t. AddsRequest s t (request_with now s m seconds (first_fate g m)) in
       let by_place : (may : Bool) (t : Connection) → may_hold g ≡ may
       → AddsRequest s t (request_with now s m seconds (fate may))
-      → IsAdded t =
-      λ may t is. subst (λ b. AddsRequest s t (request_with now s m seconds (fate b))) (sym is) in
+      → IsAdded t = λ may t is. grind (arith, request_with) in
       let d : Delay = record { by = Application; seconds = seconds } in
       let delay : delay_of store now m ≡ Some d = rw deadline refl in
       cond_both (asks_answer s m) _ _ IsAdded (λ asks.
@@ -691,37 +628,21 @@ handled_kept store now s m rs is =
 -- ---- every effect
 
 accounts_keep : (limits : LimitValues) (a : Option ApplicationsValue) → KeepsRequests limits a (Accounted a)
-accounts_keep limits a =
-    let calm : (token : List ℕ) → HoldsOfCalls (λ s t. HaveOtherTokens token s.observers
-    → HaveOtherTokens token t.observers) = λ token. observers_kept (HaveOtherTokens token) tt in
-    let plain : (s t : Connection) (rs : List ApplicationRequest) → IsPlainOver s.history t.history
-    → ((token : List ℕ) → HaveOtherTokens token s.observers → HaveOtherTokens token t.observers)
-    → Accounted a s rs → Accounted a t rs =
-    λ s t rs is others. passes_keep a s t rs (plain_passes a s t is others) in
-    record {
-      first =
-          record { server = refl; requests = refl; pending = λ on. refl; quiet = λ off. refl; each = tt; apart = tt };
-      handled = λ store now s m rs same. subst (λ b. Accounted b s rs
-          → Accounted b (side_after store now s m) (requests_after store now s m rs)) same
-          (handled_kept store now s m rs);
-      faulted = λ s fault rs. plain s (side_faulted s fault) rs (faulted_between IsPlainOver same_plain
-          (λ h r takes room. stops_plain h (reject_reason r) _ (abort_plain (limit_now h) (reject_reason r))) s fault)
-          (λ token. (calm token).faulted s fault);
-      written = λ s n rs. plain s (side_written s n) rs (written_between IsPlainOver same_plain
-          (λ h k within. stays_plain h _ [] (sym (append-nil h.queued)) tt (refl, refl) refl refl refl) s n)
-          (λ token. (calm token).written s n);
-      ended = λ s cut rs. plain s (side_ended s cut) rs (ended_between IsPlainOver same_plain
-          (λ h cut takes. stops_plain h (end_reason cut) [] tt) s cut) (λ token. (calm token).ended s cut);
-      released = λ s rs. plain s (side_released s) rs (released_between IsPlainOver same_plain
-          (λ h opened none. stops_plain h ReleasedHere (release ∷ []) ((refl, refl), tt)) s)
-          (λ token. (calm token).released s);
-      announced = λ s size rs. plain s (side_announced s size) rs (announced_between IsPlainOver same_plain
-          (λ h n opened room fit. stays_plain h _ (own_csm n ∷ []) refl ((refl, refl), tt) (refl, refl) refl refl refl)
-          s size)
-          (λ token. (calm token).announced s size);
-      responded = responded_kept a;
-      reported = reported_kept a;
-    }
+accounts_keep limits a = record {
+  first = record { server = refl; requests = refl; pending = λ on. refl; quiet = λ off. refl; each = tt; apart = tt };
+  handled = λ store now s m rs same. subst (λ b. Accounted b s rs
+      → Accounted b (side_after store now s m) (requests_after store now s m rs)) same
+      (handled_kept store now s m rs);
+  plain = λ s t rs call. passes_keep a s t rs (plain_passes a s t (plain_between IsPlainOver same_plain
+      (λ h r takes room. stops_plain h (reject_reason r) _ (abort_plain (limit_now h) (reject_reason r)))
+      (λ h k within. stays_plain h _ [] (sym (append-nil h.queued)) tt (refl, refl) refl refl refl)
+      (λ h cut takes. stops_plain h (end_reason cut) [] tt)
+      (λ h opened none. stops_plain h ReleasedHere (release ∷ []) ((refl, refl), tt))
+      (λ h n opened room fit. stays_plain h _ (own_csm n ∷ []) refl ((refl, refl), tt) (refl, refl) refl refl refl)
+      s t call) (λ token. observers_plain (HaveOtherTokens token) tt s t call));
+  responded = responded_kept a;
+  reported = reported_kept a;
+}
 
 -- ---- after any events
 

@@ -50,11 +50,7 @@ pub pending_gone : (before : List PendingEntryValue) (e : PendingEntryValue) (la
     (p : Phase) (es fs : List PendingEntryValue) → es ≡ before ++ e ∷ later → fs ≡ before ++ later
     → is_of_application e ≡ false → StillPending es p fs p
 pending_gone before e later p es fs there left other = rw (there, left) (record {
-  running = λ on. (
-    on,
-    filter-append is_of_application before later
-        ∙ sym (filter-append is_of_application before (e ∷ later) ∙ rw other refl),
-  );
+  running = λ on. (grind (arith, filter-append));
   quiet = λ quiet off. absurd
       (omega (arith, ap length (quiet off), length-append before (e ∷ later)));
 })
@@ -126,7 +122,7 @@ have_own (r ∷ rs) apart = search (rules, all_to, have_own rs apart.1)
 apart_more : (rs : List ApplicationRequest) (r : ApplicationRequest) → AllByRecursion (λ f. Apart f r) rs
     → AreApart rs → AreApart (rs ++ r ∷ [])
 apart_more [] r all apart = (tt, tt)
-apart_more (f ∷ rs) r all apart = (all_append (Apart f) rs (r ∷ []) apart.0 (all.0, tt), apart_more rs r all.1 apart.1)
+apart_more (f ∷ rs) r all apart = (grind (arith, all_append, apart_more rs r all.1 apart.1))
 
 -- The requests are accounted for. Those that were handled are these, and the unanswered ones are pending.
 pub record Accounted (a : Option ApplicationsValue) (s : Connection) (rs : List ApplicationRequest) : Type 0 where
@@ -158,19 +154,17 @@ kept_on {received} s t e r spares is = record {
   handed = λ on. is.handed (e.running on);
   only = λ current. (
       let rest : drop (suc r.handled) t.history.handled ≡ drop (suc r.handled) s.history.handled ++ received =
-      rw e.handled (drop-append-le (suc r.handled) s.history.handled received (omega (arith, at_place s r is))) in
+      grind (arith, drop-append-le, at_place) in
       let none = all_parts (λ m. asks_with r.request.token m ≡ false) (drop (suc r.handled) s.history.handled) received
       (rw rest at current.1) in
       let before = is.only (current.0, none.0) in
-      let after = spares (current.0, none.0) none.1 before.0 in (
-        after.0,
-        rw (
-          e.queued,
-          filter_more (responds r.request.token) r.queued s.history.queued e.more is.few,
-          filter_none (responds r.request.token) e.more after.1,
-          append-nil,
-        ) before.1,
-      ));
+      (grind (
+        arith,
+        filter_more,
+        e.more,
+        filter_none,
+        append-nil,
+      )));
 }
 
 -- ---- an effect that passes the requests
@@ -190,8 +184,7 @@ passes_keep a s t rs passes is = record {
   requests = rw (passes.extends.handled, filter-append, passes.none, append-nil) is.requests;
   pending = λ on. let before = passes.pending.running on in is.pending before.0 ∙ sym before.1;
   quiet = passes.pending.quiet is.quiet;
-  each = all_to (IsKept s) (IsKept t) (λ r. kept_on s t passes.extends r (λ current. passes.spares r.request.token)) rs
-      is.each;
+  each = search (rules, all_to, kept_on, passes.extends, passes.spares);
   apart = is.apart;
 }
 
@@ -237,8 +230,7 @@ module _ (a : Option ApplicationsValue) (s t : Connection) (rs : List Applicatio
   pub adds_keep : Accounted a t (rs ++ r ∷ [])
   adds_keep =
       let Answered : ApplicationRequest → Type 0 = λ f. r.alone ≡ true → f.request.token ≡ m.token → waits f ≡ false in
-      let answered : AllByRecursion Answered rs = none_waiting m.token r.alone rs (λ alone. rw (is.pending live)
-      (none_filter (awaits m.token) is_of_application h.pending (lone alone))) in
+      let answered : AllByRecursion Answered rs = grind (arith, none_waiting, is.pending, none_filter, lone) in
       record {
         server = adds.extends.fixed.1 ∙ is.server;
         requests = rw (map-append, is.requests, adds.extends.handled, filter-append, is_for) refl;
@@ -257,14 +249,15 @@ module _ (a : Option ApplicationsValue) (s t : Connection) (rs : List Applicatio
                 there = rw adds.extends.handled (next_at h.handled m []);
                 asks = (and_parts (is_asking m) _ is_for).0;
                 handed = adds.handed;
-                only = λ current. (adds.calm (lone current.0), rw (adds.extends.queued, drop-append_seam) adds.only);
+                only = λ current. (grind (arith, adds.calm, lone, drop-append_seam));
               },
               tt,
             );
-        apart = apart_more rs r (all_to (λ f. IsKept s f × Answered f) (λ f. Apart f r) (λ f so. (
-          old_then_new (length h.queued) f.fate fate (old_fate h f f.fate so.0.has) adds.new,
-          at_place s f so.0,
-          so.1,
+        apart = apart_more rs r (all_to (λ f. IsKept s f × Answered f) (λ f. Apart f r) (λ f so. grind (
+          arith,
+          old_then_new,
+          old_fate,
+          at_place,
         )) rs (all_both (IsKept s) Answered rs is.each answered)) is.apart;
       }
 
@@ -356,7 +349,7 @@ module _ (a : Option ApplicationsValue) (s : Connection) (rs : List ApplicationR
   pub one_waits : list_any test rs ≡ true
   one_waits =
       any_waiting test entry next.same rs
-      (rw (is.pending running) (any_filter entry is_of_application next.of_application s.history.pending next.some))
+      (grind (arith, is.pending, running, any_filter, next.of_application))
 
   -- Another request, if it is not current while it has the token.
   other_kept : (f : ApplicationRequest) → (f.request.token ≡ response.token → IsCurrent s.history f → ⊥) → IsKept s f
@@ -382,8 +375,7 @@ module _ (a : Option ApplicationsValue) (s : Connection) (rs : List ApplicationR
     earlier_kept f so = other_kept f (λ same current. both_ways (asks_with f.request.token r.request)
         (kept_at (λ m. asks_with f.request.token m ≡ false) (suc f.handled) r.handled s.history.handled r.request
         (omega (arith, so.1.1)) kept.there current.1)
-        (and_from _ _ kept.asks
-        ((bytes_decides r.request.token f.request.token).1 ((next.passing r passes).1 ∙ sym same)))) so.0
+        (grind (arith, and_from, kept.asks, bytes_decides, next.passing))) so.0
 
     -- A later one with the token was not alone.
     later_kept : (g : ApplicationRequest) → IsKept s g × Apart r g → IsKept t g
@@ -428,20 +420,16 @@ module _ (a : Option ApplicationsValue) (s : Connection) (rs : List ApplicationR
   each_kept (q ∷ qs) some kept apart =
       let both = all_both (IsKept s) (Apart q) qs kept.1 apart.0 in
       elim (cases_Bool (test q)) [
-        | inl passes ↦ rw passes (
-          (
-            its_kept q passes kept.0,
-            all_to (λ g. IsKept s g × Apart q g) (IsKept t) (later_kept q passes kept.0) qs both,
-          ),
-          (
-            all_to (λ g. IsKept s g × Apart q g) (Apart (record q { fate = fate })) (λ g so. (
-              new_then_old (length s.history.queued) fate g.fate sent.new (old_fate s.history g g.fate so.0.has),
-              so.1.1,
-              λ alone same. absurd (cc (so.1.2 alone same, (next.passing q passes).0)),
-            )) qs both,
-            apart.1,
-          ),
-        )
+        | inl passes ↦ rw passes (grind (
+          arith,
+          its_kept,
+          all_to,
+          later_kept,
+          new_then_old,
+          sent.new,
+          old_fate,
+          next.passing,
+        ))
         | inr other ↦ (
             let one = found_one (λ r. IsKept s r × Apart q r) test qs (rw other at some) both in
             let rest = each_kept qs (rw other at some) kept.1 apart.1 in
@@ -463,16 +451,15 @@ module _ (a : Option ApplicationsValue) (s : Connection) (rs : List ApplicationR
   all_waiting (q ∷ qs) = search (rules, cond_both, waits, all_waiting qs)
 
   pub answer_keeps : Accounted a t (with_fate test fate rs)
-  answer_keeps =
-      search (
-        rules,
-        each_kept,
-        one_waits,
-        fate_requests,
-        waiting_without,
-        sent,
-        map_without,
-        waits,
-        all_waiting,
-        filter_without,
-      )
+  answer_keeps = grind (
+    arith,
+    each_kept,
+    one_waits,
+    fate_requests,
+    waiting_without,
+    sent,
+    map_without,
+    waits,
+    all_waiting,
+    filter_without,
+  )

@@ -6,10 +6,9 @@ use Rattle.std.proofs.lemmas.Bool.{both_ways, cases_Bool, cond_both}
 use Rattle.std.proofs.lemmas.Option.{slice_get_within}
 use Rattle.std.proofs.lemmas.Grind.{common_steps}
 use lib.Pointwise.{bytes_decides}
-use Rattle.coap_model.specs.Prelude.{AllByRecursion, Answered, ApplicationRequest, Bare, Fate, HasFate, HaveOtherPlaces}
-use Rattle.coap_model.specs.Prelude.{History, Message, PendingEntryValue, Reply, Responder, Stopped, Unanswered, Whole}
-use Rattle.coap_model.specs.Prelude.{after, answers, awaits, bare_response, entry_of, fate_by, fate_of, fit, fitted}
-use Rattle.coap_model.specs.Prelude.{has_stopped, is_unanswered, limit_now, list_any, stay, with_fate}
+use Rattle.coap_model.specs.Prelude.{AllByRecursion, Answered, ApplicationRequest, Fate, HasFate, HaveOtherPlaces}
+use Rattle.coap_model.specs.Prelude.{History, Message, PendingEntryValue, Responder, Unanswered, after, awaits}
+use Rattle.coap_model.specs.Prelude.{entry_of, fate_by, has_stopped, is_unanswered, list_any, stay, with_fate}
 use Rattle.coap_model.proofs.world.EntryLemmas.{all_to}
 use Rattle.coap_model.proofs.world.WalkLaws.{sent}
 
@@ -130,15 +129,7 @@ none_waiting token when (r ∷ rs) none =
 pub fate_cases : (P : Fate → Type 0) (by : Responder) (h : History) (response : Message) → P Unanswered
     → ((sent : Message) → P (Answered by response sent (length h.handled) (length h.queued)))
     → P (fate_by by h response)
-fate_cases P by h response none sent =
-    cond_both (answers h.phase) _ Unanswered P (λ on. by_reply (fit (limit_now h) response (bare_response response)))
-    (λ off. none)
-  where
-    by_reply : (r : Reply) → P (fate_of by response (fitted response (bare_response response) r) (length h.handled)
-        (length h.queued))
-    by_reply Whole = sent response
-    by_reply Bare = sent (bare_response response)
-    by_reply Stopped = none
+fate_cases P by h response none sent = grind (arith, cond_both)
 
 -- A property of each request.
 pub fate_all : (P Q : ApplicationRequest → Type 0) (test : ApplicationRequest → Bool) (fate : Fate)

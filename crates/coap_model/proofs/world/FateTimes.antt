@@ -1,12 +1,12 @@
 -- The deadlines of the requests that the application answers.
-use Rattle.std.proofs.Common.{Bool, List, None, Option, Some, [], arith, cond, false, filter, inl, inr, map, nat_le}
-use Rattle.std.proofs.Common.{rules, subst, sym, true, ℕ, ◌<◌, ◌∷◌, ◌≡◌, ◌≤◌}
+use Rattle.std.proofs.Common.{Bool, List, None, Option, Some, [], arith, cond, false, filter, map, nat_le, rules, subst}
+use Rattle.std.proofs.Common.{sym, true, ℕ, ◌<◌, ◌∷◌, ◌≡◌, ◌≤◌}
 use Rattle.std.proofs.lemmas.Bool.{and_parts, both_ways, cases_Bool, cond_both, eqb-true, leb-false, leb-true}
 use Rattle.coap_model.specs.Prelude.{AcceptedCall, AllByRecursion, Answered, Application, ApplicationRequest}
 use Rattle.coap_model.specs.Prelude.{ConfigValues, Connection, Engine, Fate, History, IsTimely, IsUpToDate, LimitValues}
 use Rattle.coap_model.specs.Prelude.{Message, Step, StoreValue, Unanswered, World, acted, due_moment, entry_of, fate_by}
-use Rattle.coap_model.specs.Prelude.{has_room, has_stopped, is_of_application, is_unanswered, is_unanswered_with}
-use Rattle.coap_model.specs.Prelude.{late_message, new_request, new_world, refusal_of, requests_after, requests_on}
+use Rattle.coap_model.specs.Prelude.{has_room, has_stopped, is_unanswered, is_unanswered_with, late_message}
+use Rattle.coap_model.specs.Prelude.{new_request, new_world, refusal_of, requests_after, requests_on}
 use Rattle.coap_model.specs.Prelude.{requests_responded, side_of, steps_of, with_fate, world_after}
 use Rattle.coap_conn.proofs.PendingLaws.{due_answer}
 use Rattle.coap_model.specs.world.World as world
@@ -102,13 +102,7 @@ deadlines_come : (now : ℕ) (rs : List ApplicationRequest)
     → AllByRecursion (λ e. due_moment now e ≡ None) (map entry_of (filter waits rs))
     → AllByRecursion (λ r. is_unanswered r.fate ≡ true → now < r.deadline) rs
 deadlines_come now [] none = tt
-deadlines_come now (r ∷ rs) none =
-    elim (cases_Bool (waits r)) [
-      | inl is ↦
-          (let both : AllByRecursion (λ e. due_moment now e ≡ None) (entry_of r ∷ map entry_of (filter waits rs)) =
-          rw is at none in ((λ so. not_come now r.deadline both.0), deadlines_come now rs both.1))
-      | inr over ↦ ((λ so. absurd (both_ways (waits r) over so)), deadlines_come now rs (rw over at none))
-    ]
+deadlines_come now (r ∷ rs) none = grind (arith, cases_Bool, waits, not_come, both_ways, deadlines_come now rs)
 
 pub deadlines_later : (c : ConfigValues) (es : List AcceptedCall) (id : ℕ) (s : Connection)
     → side_of id (world_after c es).sides ≡ Some s → has_stopped s.history.phase ≡ false → has_room s ≡ true
@@ -119,4 +113,4 @@ deadlines_later c es id s there live room =
     of_number (λ n t. IsUpToDate w.store w.now t) id s w.sides (world_hears c es) there in
     deadlines_come w.now (requests_on c id es)
     (subst (AllByRecursion (λ e. due_moment w.now e ≡ None)) (sym ((requests_accounted c es id s there).pending live))
-    (all_filter (λ e. due_moment w.now e ≡ None) is_of_application s.history.pending (up.sent room).0))
+    (grind (arith, all_filter)))

@@ -1,24 +1,23 @@
 -- The requests that the application answers, along the events of a server. Let each effect on a connection keep a
 -- property of the connection and its requests. Then the property holds after all events.
 use Rattle.std.proofs.Common.{Bool, List, Option, Some, [], cond, inl, inr, length, map, refl, rules, subst, suc, sym}
-use Rattle.std.proofs.Common.{zero, ℕ, ◌&&◌, ◌++◌, ◌+◌, ◌==◌, ◌∙◌, ◌∷◌, ◌≡◌, ◌≢◌}
+use Rattle.std.proofs.Common.{zero, ℕ, ◌&&◌, ◌++◌, ◌+◌, ◌==◌, ◌∙◌, ◌∷◌, ◌≡◌, ◌≢◌, arith}
 use Rattle.std.proofs.lemmas.Bool.{and_parts, cases_eq, cond_both, eq-eqb, eqb-true, ne_eqb}
 use Rattle.coap_model.specs.Prelude.{AcceptedCall, AllByRecursion, Answer, Application, ApplicationRequest}
 use Rattle.coap_model.specs.Prelude.{ApplicationsValue, ConfigValues, Connection, ConnectionEntry, Engine, History}
-use Rattle.coap_model.specs.Prelude.{LimitValues, Message, PendingEntryValue, Step, StoreValue, StreamFault, World}
-use Rattle.coap_model.specs.Prelude.{acted, after_steps, fate_by, if_there, is_unanswered_with, late_message, new_side}
+use Rattle.coap_model.specs.Prelude.{LimitValues, Message, PendingEntryValue, Step, StoreValue, World, acted}
+use Rattle.coap_model.specs.Prelude.{after_steps, fate_by, if_there, is_unanswered_with, late_message, new_side}
 use Rattle.coap_model.specs.Prelude.{new_world, next_pending, requests_acted, requests_after, requests_by, requests_due}
 use Rattle.coap_model.specs.Prelude.{requests_on, requests_once, requests_responded, requests_settled, requests_then}
 use Rattle.coap_model.specs.Prelude.{requests_within, settled, settled_once, settled_place, settled_within, side_after}
-use Rattle.coap_model.specs.Prelude.{side_announced, side_ended, side_faulted, side_of, side_released, side_responded}
-use Rattle.coap_model.specs.Prelude.{side_written, steps_by, steps_of, with_fate, world_after}
+use Rattle.coap_model.specs.Prelude.{side_of, side_responded, steps_by, steps_of, with_fate, world_after}
 use Rattle.coap_model.specs.world.World.{changed_at}
 use Rattle.coap_wire.proofs.NumberLaws.{none_or_some}
 use Rattle.coap_model.specs.world.World as world
 use Rattle.coap_model.proofs.OptionLemmas.{one_made, same_there}
 use Rattle.coap_model.proofs.world.PlaceLaws.{all_there, changed_elsewhere, changed_here, dropped_elsewhere}
 use Rattle.coap_model.proofs.world.PlaceLaws.{dropped_here, first_there, new_there, nobody, other_more}
-use Rattle.coap_model.proofs.world.WalkLaws.{Between, there_or_not}
+use Rattle.coap_model.proofs.world.WalkLaws.{Between, there_or_not, PlainCall, Fault, Write, End, Release, Announcement}
 use Rattle.coap_model.proofs.world.AcrossLaws.{HoldsOf, applications_stay, step_across}
 use Rattle.coap_model.proofs.world.RespondedLaws.{allowed}
 use Rattle.coap_model.proofs.world.StepLaws.{steps_of_more}
@@ -30,12 +29,7 @@ pub record KeepsRequests (limits : LimitValues) (a : Option ApplicationsValue)
   pub handled : (store : StoreValue) (now : ℕ) (s : Connection) (m : Message) (rs : List ApplicationRequest)
       → store.applications ≡ a → P s rs
       → P (side_after store now s m) (requests_after store now s m rs)
-  pub faulted : (s : Connection) (fault : StreamFault) (rs : List ApplicationRequest) → P s rs
-      → P (side_faulted s fault) rs
-  pub written : (s : Connection) (n : ℕ) (rs : List ApplicationRequest) → P s rs → P (side_written s n) rs
-  pub ended : (s : Connection) (cut : Bool) (rs : List ApplicationRequest) → P s rs → P (side_ended s cut) rs
-  pub released : (s : Connection) (rs : List ApplicationRequest) → P s rs → P (side_released s) rs
-  pub announced : (s : Connection) (size : ℕ) (rs : List ApplicationRequest) → P s rs → P (side_announced s size) rs
+  pub plain : (s t : Connection) (rs : List ApplicationRequest) → PlainCall s t → P s rs → P t rs
   pub responded : (s : Connection) (m : Message) (rs : List ApplicationRequest) → P s rs
       → P (side_responded s m) (requests_responded s m rs)
   pub reported : (store : StoreValue) (now : ℕ) (s : Connection) (rs : List ApplicationRequest) → P s rs
@@ -71,19 +65,18 @@ module _ (limits : LimitValues) (a : Option ApplicationsValue) (P : Connection �
       opened_good : (at : ℕ) → AllGood (acted limits w (world.Opened at)).sides
           (requests_acted id w (world.Opened at) rs)
       unfolding acted requests_acted
-      opened_good at =
-          search (
-            rules,
-            cases_eq,
-            eq-eqb,
-            there_or_not,
-            first_there,
-            new_there,
-            same_there,
-            ne_eqb,
-            cond_both,
-            other_more,
-          )
+      opened_good at = grind (
+        arith,
+        cases_eq,
+        eq-eqb,
+        there_or_not,
+        first_there,
+        new_there,
+        same_there,
+        ne_eqb,
+        cond_both,
+        other_more,
+      )
 
       -- A change of the connection with one id leaves the requests, or changes them too if this is the id.
       same_good : (at : ℕ) (f : Connection → Connection) → ((s : Connection) → P s rs → P (f s) rs)
@@ -101,16 +94,10 @@ module _ (limits : LimitValues) (a : Option ApplicationsValue) (P : Connection �
       unfolding acted requests_acted
       acted_good (world.Opened at) same = opened_good at
       acted_good (world.Handled at m) same = own_good at _ _ (λ s. keeps.handled w.store w.now s m rs same)
-      acted_good (world.Faulted at fault) same = same_good at _ (λ s. keeps.faulted s fault rs)
-      acted_good (world.Written at n) same = same_good at _ (λ s. keeps.written s n rs)
-      acted_good (world.Ticked now) same = search (rules, cond_both)
-      acted_good (world.Stored path format bytes) same = search (rules, cond_both)
-      acted_good (world.Removed path) same = good
-      acted_good (world.Ended at cut) same = same_good at _ (λ s. keeps.ended s cut rs)
-      acted_good (world.Released at) same = same_good at _ (λ s. keeps.released s rs)
-      acted_good (world.Announced at size) same = same_good at _ (λ s. keeps.announced s size rs)
       acted_good (world.Responded at m) same = own_good at _ _ (λ s. keeps.responded s m rs)
       acted_good (world.Dropped at) same = search (rules, cases_eq, none_or_some, dropped_here, dropped_elsewhere)
+      acted_good st same =
+          search (rules, cond_both, same_good, keeps.plain, Fault, Write, End, Release, Announcement)
 
     then_good : (w : World) (rs : List ApplicationRequest) → AllGood w.sides rs
         → AllGood (map (settled_place w.store w.now) w.sides) (requests_then id w rs)
@@ -118,8 +105,7 @@ module _ (limits : LimitValues) (a : Option ApplicationsValue) (P : Connection �
     then_good w rs good t there =
         let made = one_made (settled w.store w.now) (side_of id w.sides) t
         (sym (all_there id (settled w.store w.now) w.sides) ∙ there) in
-        rw made.1 (subst (λ u. P u (requests_settled w.store w.now made.0 rs)) made.2
-        (settled_good w.store w.now made.0 rs (good made.0 made.1)))
+        rw made.1 (grind (arith, settled_good))
 
     steps_good : (w : World) (ss : List Step) (rs : List ApplicationRequest) → w.store.applications ≡ a
         → AllGood w.sides rs → AllGood (after_steps limits w ss).sides (requests_by limits id w ss rs)
@@ -128,7 +114,7 @@ module _ (limits : LimitValues) (a : Option ApplicationsValue) (P : Connection �
     steps_good w (s ∷ ss) rs same good =
         steps_good (world.step limits w s) ss (requests_then id (acted limits w s) (requests_acted id w s rs))
         (applications_stay limits w s ∙ same)
-        (then_good (acted limits w s) (requests_acted id w s rs) (acted_good w rs good s same))
+        (grind (arith, then_good, acted_good))
 
 -- So each connection has the property with its requests after any events.
 pub requests_kept : (c : ConfigValues) (P : Connection → List ApplicationRequest → Type 0)
@@ -193,7 +179,7 @@ module _ (P : ℕ → List ApplicationRequest → Type 0)
   steps_stay limits id Allowed acts w [] rs allowed is = is
   steps_stay limits id Allowed acts w (s ∷ ss) rs allowed is =
       steps_stay limits id Allowed acts (world.step limits w s) ss _ allowed.1
-      (then_stays id (acted limits w s) (requests_acted id w s rs) (acts w s rs allowed.0 is))
+      (grind (arith, then_stays))
 
 -- A connection existed before steps that do not open it. A relation E holds since then, if it continues a relation R
 -- that holds across each of the steps.

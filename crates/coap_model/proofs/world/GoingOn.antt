@@ -1,22 +1,20 @@
 -- A history that continues another one: it belongs to the same connection, and accepts no messages if the earlier one
 -- did not. Each call keeps these properties.
-use Rattle.std.proofs.Common.{◌≡◌, ℕ, ◌≤◌, Bool, true, false, List, length, Option, Some, refl, ◌∙◌, arith}
+use Rattle.std.proofs.Common.{◌≡◌, ℕ, ◌≤◌, true, false, List, length, Option, Some, refl, ◌∙◌, arith}
 use Rattle.std.proofs.lemmas.Bool.{true_from_ne_false}
 use Rattle.std.proofs.lemmas.List.{length-drop}
 use Rattle.coap_model.specs.Prelude.{Message, StreamFault, Reply, Server, LimitValues, takes_messages}
 use Rattle.coap_model.specs.Prelude.{PendingEntryValue, ConnectionState, ReactionResult, send_as, due_effect, History}
 use Rattle.coap_model.specs.Prelude.{IsHistory, with_effect, after, link_of, Call, call_effect, StoreValue}
 use Rattle.coap_model.specs.Prelude.{ApplicationsValue, ConfigValues, Connection, new_side, handles, side_after}
-use Rattle.coap_model.specs.Prelude.{side_faulted, side_written, side_ended, side_released, side_announced}
-use Rattle.coap_model.specs.Prelude.{side_responded, late_message, after_sent, settled_once, settled, World, Step}
-use Rattle.coap_model.specs.Prelude.{side_of, AcceptedCall, world_after}
-use Rattle.coap_conn.specs.declared.phase.Reply.TheVariants as reply
+use Rattle.coap_model.specs.Prelude.{side_faulted, side_responded, late_message, after_sent, settled_once, settled}
+use Rattle.coap_model.specs.Prelude.{World, Step, side_of, AcceptedCall, world_after}
 use Rattle.coap_conn.specs.PendingEntries as pending
 use Rattle.coap_conn.specs.Calls.{IsWithin}
 use Rattle.coap_conn.specs.Calls as call
 use Rattle.coap_conn.proofs.LinkLemmas.{new_shown, history_more}
-use Rattle.coap_model.proofs.world.WalkLaws.{sent, holding, without_first, Between, settled_between, PlainCall}
-use Rattle.coap_model.proofs.world.WalkLaws.{plain_between}
+use Rattle.coap_model.proofs.world.WalkLaws.{sent, holding, Between, settled_between, PlainCall, plain_between, Fault}
+use Rattle.coap_model.proofs.world.WalkLaws.{Write, End, Release, Announcement}
 use Rattle.coap_model.proofs.world.AcrossLaws.{kept_by, kept_where, applications_stay, HoldsOf, KeepsAll, all_across}
 
 -- ---- properties that are kept
@@ -59,19 +57,17 @@ pub written_goes_on : (h : History) (n : ℕ) → n ≤ length (link_of h).waiti
 written_goes_on h n within = grind (arith, length-drop)
 
 pub all_go_on : KeepsAll GoesOn
-all_go_on =
-    grind (
-      arith,
-      as_before,
-      further,
-      history_more,
-      sent_goes_so,
-      holding_so,
-      without_first,
-      effect_goes_on,
-      sent_over,
-      written_goes_on,
-    )
+all_go_on = grind (
+  arith,
+  as_before,
+  further,
+  history_more,
+  sent_goes_so,
+  holding_so,
+  effect_goes_on,
+  sent_over,
+  written_goes_on,
+)
 
 -- ---- each call
 
@@ -82,18 +78,17 @@ due_over s first e = grind (arith, sent_over)
 -- No call changes the fixed values of a connection, or makes it accept messages again.
 pub call_goes_on : (h : History) (c : Call) → IsWithin (link_of h) (call_effect (link_of h) c).deed
     → GoesOn h (after h c)
-call_goes_on h c within =
-    grind (
-      arith,
-      as_before,
-      sent_goes_so,
-      holding_so,
-      effect_goes_on,
-      sent_over,
-      due_over,
-      written_goes_on,
-      history_more,
-    )
+call_goes_on h c within = grind (
+  arith,
+  as_before,
+  sent_goes_so,
+  holding_so,
+  effect_goes_on,
+  sent_over,
+  due_over,
+  written_goes_on,
+  history_more,
+)
 
 -- The first due entry is removed, and its message is sent.
 pub sent_goes_on : (h : History) (now : ℕ) (e : PendingEntryValue) → GoesOn h (after_sent h now e)
@@ -144,11 +139,7 @@ pub record Keeps (limits : LimitValues) (a : Option ApplicationsValue) (P : Conn
   pub first : P (new_side limits)
   pub handled : (store : StoreValue) (now : ℕ) (s : Connection) (m : Message) → store.applications ≡ a → IsSide limits s
       → P s → P (side_after store now s m)
-  pub faulted : (s : Connection) (fault : StreamFault) → P s → P (side_faulted s fault)
-  pub written : (s : Connection) (n : ℕ) → P s → P (side_written s n)
-  pub ended : (s : Connection) (cut : Bool) → P s → P (side_ended s cut)
-  pub released : (s : Connection) → P s → P (side_released s)
-  pub announced : (s : Connection) (size : ℕ) → P s → P (side_announced s size)
+  pub plain : (s t : Connection) → PlainCall s t → P s → P t
   pub responded : (s : Connection) (m : Message) → P s → P (side_responded s m)
   pub reported : (store : StoreValue) (now : ℕ) (s : Connection) → P s → P (settled_once store now s)
 
@@ -163,11 +154,11 @@ keeps_hold limits a P keeps w st id same =
     record {
       same = λ s. grind arith;
       handled = λ m at s. (goes.handled m at s, keeps.handled w.store w.now s m same);
-      faulted = λ fault at s. (goes.faulted fault at s, λ side. keeps.faulted s fault);
-      written = λ s n. (goes.written s n, λ side. keeps.written s n);
-      ended = λ s cut. (goes.ended s cut, λ side. keeps.ended s cut);
-      released = λ s. grind arith;
-      announced = λ size at s. grind arith;
+      faulted = λ fault at s. (goes.faulted fault at s, λ side. keeps.plain s _ (Fault fault));
+      written = λ s n. (goes.written s n, λ side. keeps.plain s _ (Write n));
+      ended = λ s cut. (goes.ended s cut, λ side. keeps.plain s _ (End cut));
+      released = λ s. (goes.released s, λ side. keeps.plain s _ Release);
+      announced = λ size at s. (goes.announced size at s, λ side. keeps.plain s _ (Announcement size));
       responded = λ s m. grind arith;
       reported =
           λ store now s t before. grind arith;

@@ -48,8 +48,6 @@ pub written_all : (s : Connection)
     → front_written (side_written s (length (waiting_on s))) ≡ front_written s ++ waiting_on s
 unfolding side_written
 written_all s =
-    let n = length (waiting_on s) in
-    let B = bytes_of s.history.queued in
     grind (arith, le-leb, take-add, take-length)
 
 -- If no bytes are queued, all were written.

@@ -1,6 +1,6 @@
 -- Known facts of an observer: the state that it was sent last is a state that its path had.
-use Rattle.std.proofs.Common.{List, None, Option, Some, ap, arith, false, inl, inr, refl, rules, sym, true, ℕ}
-use Rattle.std.proofs.Common.{◌+◌, ◌<◌, ◌∙◌, ◌≡◌, ◌≤◌, ◌⊎◌}
+use Rattle.std.proofs.Common.{List, None, Option, Some, ap, arith, false, inl, inr, refl, rules, sym, true, ℕ, ◌<◌, ◌∙◌}
+use Rattle.std.proofs.Common.{◌≡◌, ◌≤◌, ◌⊎◌}
 use Rattle.std.proofs.lemmas.Bool.{and_parts, cond_both, eq-eqb, eqb-true}
 use lib.Pointwise.{bytes_decides}
 use Rattle.coap_model.specs.Prelude.{AreDistinct, Change, Delete, Dynamic, Message, Nothing, Observer, Path, Put}
@@ -100,12 +100,10 @@ found_later : (store : StoreValue) (change : Change) (path : Path) (r : Represen
     ⊎ (found_in store.resources path ≡ Some r)
 found_later store Nothing path r distinct found = inr found
 found_later store (Put at format bytes) path r distinct found = by_path path at
-    (λ here. (let version : store.versions + 1 ≡ r.version = cc (put_is_stored store at format bytes) in
-    inl (omega arith, omega arith)))
-    (λ apart. inr (sym (other_is_kept_on_put store at path format bytes apart) ∙ found))
+    (λ here. (grind (arith, put_is_stored)))
+    (λ apart. grind (arith, other_is_kept_on_put, found))
 found_later store (Delete at) path r distinct found =
-    by_path path at (λ here. absurd (cc (deleted_is_gone store at distinct)))
-    (λ apart. inr (sym (other_is_kept_on_delete store at path apart) ∙ found))
+    grind (arith, by_path, deleted_is_gone, other_is_kept_on_delete, found)
 
 versions_grow : (store : StoreValue) (change : Change) → store.versions ≤ (changed store change).versions
 versions_grow store (Put at format bytes) = omega arith
@@ -236,11 +234,7 @@ telling_at : (s : StoreValue) (t : RequestTarget) (m : Message) → ReportsWell 
 telling_at s t m =
     let P : Answer → Type 0 = ReportsWell t.place t.state m in
     answer_cases P s t m (λ c error e. absurd cc) (record {
-      read = λ r is. get_cases P t.place r m (λ c error e. absurd cc) (record {
-        valid = λ among e. (r, is, valid_says t.place r m among);
-        late = λ e. absurd cc;
-        content = λ e. (r, is, inl refl);
-      });
+      read = λ r is. get_cases P t.place r m (λ c error e. absurd cc) (grind (arith, valid_says, t.place));
       deleted = λ dynamic other e. absurd cc;
       stored = λ dynamic other. store_cases P s t m (λ c error e. absurd cc) (λ e. absurd cc)
           (λ can e. absurd (cc (stored_unwatched t.key t.state m)));
@@ -269,12 +263,7 @@ pub entry_reports : (store : StoreValue) (now : ℕ) (handled : List Message) (m
     → last_request m.token handled ≡ Some m → (prompt_answer store now m).watch ≡ watch.Add
     → ReportsState handled (entry_for store now m) (state_of store now (path_of m))
     (response_with_observe m.token true (prompt_answer store now m).response)
-entry_reports store now handled m last e =
-    let is = prompt_reports store now m e in
-    let a = (prompt_answer store now m).response in
-    says_reports handled (entry_for store now m) (state_of store now (path_of m)) is.0 a is.1
-    (named_so (Names m is.0) (NamesEtag handled (entry_for store now m) is.0) (kind_of_path (path_of m)) is.0 a
-    (λ names. (m, last, names)) is.2)
+entry_reports store now handled m last e = grind (arith, prompt_reports, says_reports, named_so)
 
 -- ---- notifications
 
@@ -284,5 +273,4 @@ pub notification_reports_observer : (handled : List Message) (store : StoreValue
     → ReportsState handled o (state_of store now o.path) (notification_message o.token (notification store now o))
 notification_reports_observer handled store now o on =
     let is = reports_on_to_observer store now o on in
-    rw on (says_reports handled o (state_of store now o.path) is.representation (notification store now o) is.there
-    (inl is.says))
+    rw on (grind (arith, says_reports))

@@ -1,7 +1,7 @@
--- After any events, the last response with an observer's token reports the state that its entry records. This holds if
--- no request for a delayed response had that token.
+-- After any events, the last request with an observer's token is its registration. The last response with the token
+-- reports the state that its entry records, if no request for a delayed response had the token.
 use Rattle.std.proofs.Common.{◌≡◌, ◌≢◌, ℕ, Bool, true, false, List, [], ◌∷◌, ◌++◌, Option, Some, None, refl, sym, subst}
-use Rattle.std.proofs.Common.{filter, find, not, ◌&&◌, if◌then◌else◌, arith, ◌∙◌, inl, inr}
+use Rattle.std.proofs.Common.{filter, find, not, ◌&&◌, if◌then◌else◌, arith, ◌∙◌, inl, inr, rules}
 use Rattle.coap_model.specs.Prelude.{list_any, Responder, Engine, Application, asks_pending, ApplicationsValue}
 use Rattle.coap_model.specs.Prelude.{AllByRecursion, Message, LimitValues, is_open, fit, bare_response}
 use Rattle.coap_model.specs.Prelude.{PendingEntryValue, Answer, Pong, first_due, History, limit_now, after, same_bytes}
@@ -12,17 +12,20 @@ use Rattle.coap_model.specs.Prelude.{with_history, side_answered, side_handled, 
 use Rattle.coap_model.specs.Prelude.{late_message, after_sent, side_of, AcceptedCall, world_after, responds}
 use Rattle.coap_model.specs.Prelude.{is_response, ReportsState, requested_late, IsLastNotification, TokensAreDistinct}
 use Rattle.coap_model.specs.Prelude.{CorrespondTo, side_responded, response_refusal, link_of, with_effect, send}
-use Rattle.coap_model.specs.Prelude.{state_without, state_now, answers, handles, Representation, takes_messages, Server}
-use Rattle.coap_model.specs.Prelude.{asks_answer, asks_with, is_asking, last_request}
-use Rattle.std.proofs.lemmas.Bool.{cases_Bool, cond_both, and_parts, and_left}
+use Rattle.coap_model.specs.Prelude.{state_without, state_now, answers, Representation, takes_messages, Server}
+use Rattle.coap_model.specs.Prelude.{asks_answer, asks_with, is_asking, last_request, IsRegistered}
+use Rattle.std.proofs.lemmas.Bool.{cases_Bool, cond_both, and_parts, and_left, eqb-true}
+use Rattle.std.proofs.lemmas.List.{append-nil}
+use Rattle.coap_store.specs.Answer.{is_number}
+use Rattle.coap_store.specs.declared.plan.Watch.TheVariants as watch
+use Rattle.coap_model.proofs.world.ResponseLaws.{watch_registers}
 use Rattle.std.proofs.lemmas.List.Folds.{list_any-append}
 use lib.Pointwise.{bytes_decides}
 use Rattle.coap_conn.specs.Calls as call
 use Rattle.coap_conn.proofs.PendingLaws.{due_answer}
 use Rattle.coap_model.proofs.world.EntryLemmas.{asks_to_enter, all_to, all_append, all_filter, all_become, found_all}
 use Rattle.coap_model.proofs.world.SideLaws.{settled_cases, pending_room, next_due_found, handles_parts}
-use Rattle.coap_model.proofs.world.WalkLaws.{PlainCall, Fault, Write, End, Release, Announcement}
-use Rattle.coap_model.proofs.world.WalkLaws.{observers_plain}
+use Rattle.coap_model.proofs.world.WalkLaws.{PlainCall, observers_plain}
 use Rattle.coap_model.proofs.world.GoingOn.{kept_after, IsSide, Keeps}
 use Rattle.coap_model.proofs.world.QueuedMessages.{last_stays, message_queues, due_queues, reply_queues, whole_last}
 use Rattle.coap_model.proofs.world.QueuedMessages.{Queues, queues_these, sent_all, last_of_longer, plain_queues}
@@ -73,19 +76,31 @@ module _ (s : Connection) (m : Message) where
   -- A message that the caller answers is a request, and the last one with its token.
   pub asked_last : takes_messages s.history.phase ≡ true → asks_answer s m ≡ true
       → last_request m.token (after s.history (call.Handle m)).handled ≡ Some m
-  asked_last takes asks =
-      grind (
-        arith,
-        request_of_longer m.token s.history.handled m,
-        answered_is_request (state_now s.history) m,
-        bytes_decides m.token m.token,
-      )
+  asked_last takes asks = grind (arith, request_of_longer, answered_is_request, bytes_decides)
 
   -- Another message is no request, or stops the connection.
   pub other_unasked : s.history.role ≡ Server → takes_messages s.history.phase ≡ true → asks_answer s m ≡ false
       → is_open (after s.history (call.Handle m)).phase ≡ true → is_asking m ≡ false
   other_unasked server takes other opened =
       grind (arith, cases_Bool (is_asking m), requested_or_over (state_now s.history) m server takes)
+
+-- ---- registrations
+
+-- More messages are handled, but no request with the token.
+registered_longer : (handled received : List Message) (o : Observer) → NoneAsk o.token received
+    → IsRegistered handled o → IsRegistered (handled ++ received) o
+registered_longer handled received o none is = grind (arith, request_stays o.token handled received none)
+
+number_is : (n : ℕ) (value : Option ℕ) → is_number value n ≡ true → value ≡ Some n
+number_is n value is = grind (arith, eqb-true)
+
+-- A request that adds an observer is its registration.
+entry_registered : (store : StoreValue) (now : ℕ) (m : Message) (handled : List Message)
+    → last_request m.token handled ≡ Some m → (prompt_answer store now m).watch ≡ watch.Add
+    → IsRegistered handled (entry_for store now m)
+entry_registered store now m handled last adds =
+    let is = and_parts _ _ (and_parts _ _ (watch_registers store now m adds)).0 in
+    record { request = m; last = last; get = is.0; observe = number_is 0 _ is.1; path = refl }
 
 -- ---- messages
 
@@ -108,7 +123,7 @@ last_longer : (o : Observer) (handled received queued more : List Message) → N
     → AllByRecursion (λ m. responds o.token m ≡ false) more → IsLastNotification handled queued o
     → IsLastNotification (handled ++ received) (queued ++ more) o
 last_longer o handled received queued more asks none is =
-    (is.0, last_stays o.token queued more none ∙ is.1, reports_longer handled received o o.reported is.0 asks is.2)
+    (grind (arith, last_stays, reports_longer))
 
 abbrev HasToken : List ℕ → Message → Type 0
 HasToken token m = m.token ≡ token
@@ -123,9 +138,12 @@ late_requested a Application token moment (m ∷ ms) e = grind (arith, late_requ
 module _ (a : Option ApplicationsValue) where
   -- ---- reported states are kept
 
-  -- The last response reports the recorded state, if no request for a delayed response had the observer's token.
+  -- The last request with the observer's token is its registration. The last response reports the recorded state, if no
+  -- request for a delayed response had the token.
   abbrev pub ReportedOn : History → Observer → Type 0
-  ReportedOn h o = requested_late a o.token h.handled ≡ false → IsLastNotification h.handled h.queued o
+  ReportedOn h o =
+      IsRegistered h.handled o
+      × (requested_late a o.token h.handled ≡ false → IsLastNotification h.handled h.queued o)
 
   -- This holds of each observer, and no two have the same token.
   pub record AreReported (h : History) (os : List Observer) : Type 0 where
@@ -142,8 +160,10 @@ module _ (a : Option ApplicationsValue) where
   leaves : (P : Message → Type 0) (received : List Message) (h k : History) (o : Observer) → QueuesOn P received h k
       → NoneAsk o.token received
       → (requested_late a o.token h.handled ≡ false → (m : Message) → P m → responds o.token m ≡ false) → LeavesOf h k o
-  leaves P received h k o queues asks other reported none =
-      grind (arith, list_any-append, last_longer o h.handled received h.queued queues.more asks, all_to P)
+  leaves P received h k o queues asks other reported = (
+    rw queues.handled (registered_longer h.handled received o asks reported.0),
+    λ none. grind (arith, list_any-append, last_longer o h.handled received h.queued queues.more asks, all_to P),
+  )
 
   all_left : (h k : History) (os : List Observer) → ((o : Observer) → LeavesOf h k o) → AreReported h os
       → AreReported k os
@@ -158,10 +178,8 @@ module _ (a : Option ApplicationsValue) where
       → AllByRecursion (λ o. asks_with o.token m ≡ false) os → AllByRecursion (ReportedOn h) os
       → AllByRecursion (ReportedOn k) os
   heard_left h k m [] queues asks reported = tt
-  heard_left h k m (o ∷ os) queues asks reported = (
-    leaves IsNoResponse (m ∷ []) h k o queues (asks.0, tt) (λ none n is. and_left (is_response n) _ is) reported.0,
-    heard_left h k m os queues asks.1 reported.1,
-  )
+  heard_left h k m (o ∷ os) queues asks reported =
+      search (rules, leaves, and_left, heard_left h k m os queues asks.1 reported.1)
 
   -- Responses with another token keep it, and those with the token of a request for a delayed response.
   other_left : (token : List ℕ) (h k : History) (o : Observer) → Queues (HasToken token) h k → token ≢ o.token
@@ -193,7 +211,7 @@ module _ (a : Option ApplicationsValue) where
   -- The entry of a request is appended if the response reports its state.
   entered_reported : (h : History) (os : List Observer) (entry : Observer) (enters : Bool)
       → HaveOtherTokens entry.token os → AreReported h os
-      → (enters ≡ true → IsLastNotification h.handled h.queued entry)
+      → (enters ≡ true → ReportedOn h entry)
       → AreReported h (with_entry enters os entry)
   entered_reported h os entry enters others are new = grind (arith, own_last, all_append)
 
@@ -214,6 +232,8 @@ module _ (a : Option ApplicationsValue) where
       let asks = asks_to_enter r.watch (and_parts _ _ both.0).0 in
       grind (
         arith,
+        append-nil h.handled,
+        entry_registered store now m h.handled last asks,
         whole_last h response both.1 opened,
         reported_by_last h.handled entry h.queued response,
         entry_reports store now h.handled m last asks,
@@ -253,8 +273,7 @@ module _ (a : Option ApplicationsValue) where
           own = others_reported.own;
           reported = others_reported.reported;
         }))
-        (λ asks. reported_with_answer store now k others m (asked_last s m takes asks)
-        (filter_others m.token s.observers) others_reported)
+        (λ asks. grind (arith, reported_with_answer, asked_last, filter_others, others_reported))
 
   -- ---- notifications
 
@@ -295,22 +314,23 @@ module _ (a : Option ApplicationsValue) where
               )
         ] e
 
-  -- The notification reports the state that the updated entry records.
-  left_reported : (store : StoreValue) (now : ℕ) (h : History) (o : Observer) (stays : Bool)
+  -- The notification reports the state that the updated entry records. The entry has the same token and path.
+  left_reported : (store : StoreValue) (now : ℕ) (h : History) (o : Observer) (stays : Bool) → IsRegistered h.handled o
       → let m = notification_message o.token (notification store now o) in
       (stays ≡ true → (goes_on (notification store now o) && is_whole (fit (limit_now h) m (bare_response m))) ≡ true)
       → is_open (after h (call.Reply m)).phase ≡ true
       → AllByRecursion (ReportedOn (after h (call.Reply m))) (left_of store now o stays)
-  left_reported store now h o true both opened =
+  left_reported store now h o true registered both opened =
       let m = notification_message o.token (notification store now o) in
       let is = and_parts _ _ (both refl) in
       let left = record o { reported = state_of store now o.path } in
       grind (
         arith,
+        append-nil h.handled,
         whole_last h m is.1 opened,
         reported_by_last h.handled left h.queued m (notification_reports_observer h.handled store now o is.0),
       )
-  left_reported store now h o false both opened = tt
+  left_reported store now h o false registered both opened = tt
 
   notified_reported : (store : StoreValue) (now : ℕ) (s : Connection) (found : Option Observer)
       → ((o : Observer) → found ≡ Some o → find (is_due store now) s.observers ≡ Some o) → AllReported s
@@ -325,6 +345,7 @@ module _ (a : Option ApplicationsValue) where
         reported_become store now s.history h o (reply_queues s.history m),
         reply_queues s.history m,
         left_reported store now s.history o,
+        found_all (ReportedOn s.history) (is_due store now) s.observers o are.reported (there o refl),
       )
 
   -- ---- pending entries
@@ -383,16 +404,8 @@ module _ (a : Option ApplicationsValue) where
       let corresponds = corresponds_keeps limits a in
       record {
         first = grind arith;
-        handled = λ store now s m same is of. (
-          corresponds.handled store now s m same is of.0,
-          cond_both (handles s) _ s AllReported
-              (λ does. handled_reported limits store now s m is (handles_parts s does).0 of.1) (λ off. of.1),
-        );
-        faulted = λ s fault. plain_reported s _ (Fault fault);
-        written = λ s n. plain_reported s _ (Write n);
-        ended = λ s cut. plain_reported s _ (End cut);
-        released = λ s. plain_reported s _ Release;
-        announced = λ s size. plain_reported s _ (Announcement size);
+        handled = λ store now s m same is of. grind (arith, cond_both, handled_reported, handles_parts);
+        plain = plain_reported;
         responded = λ s m of. grind (arith, responded_reported s m of.0 of.1);
         reported = λ store now s of.
             grind (

@@ -6,13 +6,13 @@ use Rattle.std.proofs.lemmas.Bool.{leb-true, ltb-true, eqb-true}
 use Rattle.std.proofs.lemmas.List.{length-append, length-drop, append-nil}
 use Rattle.std.proofs.lemmas.List.Sums.{length-filter, count_by-le-length}
 use Rattle.coap_model.specs.Prelude.{ApplicationsValue, Option, Message, spelling, Reply, LimitValues, AreInRange}
-use Rattle.coap_model.specs.Prelude.{announced, bad_csm_option, announcement, AllFit, fit, bare_response, Answer}
-use Rattle.coap_model.specs.Prelude.{ConnectionState, send_as, react, pong_with, ReactionResult, stop, live_reaction}
+use Rattle.coap_model.specs.Prelude.{announced, bad_csm_option, announcement, AllFit, fit, bare_response}
+use Rattle.coap_model.specs.Prelude.{ConnectionState, send_as, react, pong_with, ReactionResult, live_reaction}
 use Rattle.coap_model.specs.Prelude.{reject_reason, History, IsHistory, limit_now, state_now, after, link_of}
-use Rattle.coap_model.specs.Prelude.{with_effect, own_csm, end_reason, StoreValue, response_with_observe, ConfigValues}
-use Rattle.coap_model.specs.Prelude.{Observer, is_due, without_token, left_of, first_becomes, Connection, new_side}
-use Rattle.coap_model.specs.Prelude.{settled_once, settled, side_of, World, Step, AcceptedCall, stream_on, world_after}
-use Rattle.coap_model.specs.Prelude.{AreAccepted, kept_on, Server}
+use Rattle.coap_model.specs.Prelude.{with_effect, own_csm, StoreValue, response_with_observe, ConfigValues, Observer}
+use Rattle.coap_model.specs.Prelude.{is_due, without_token, left_of, first_becomes, Connection, new_side, settled_once}
+use Rattle.coap_model.specs.Prelude.{settled, side_of, World, Step, AcceptedCall, stream_on, world_after, AreAccepted}
+use Rattle.coap_model.specs.Prelude.{kept_on, Server}
 use Rattle.coap_model.proofs.world.SideLaws.{send_pending, observers_after, observers_settled}
 use Rattle.coap_wire.proofs.StreamSteps.{unfinished_below}
 use Rattle.coap_conn.proofs.LinkLemmas.{announced_more}
@@ -20,10 +20,10 @@ use Rattle.coap_conn.proofs.WaitingLaws.{wait, one_small, limit_within, queued_w
 use Rattle.coap_conn.proofs.SmallLemmas.{release_bytes_small}
 use Rattle.coap_conn.proofs.PendingLaws.{due_nothing, due_fewer, pending_few}
 use Rattle.coap_conn.proofs.HistoryLaws.{reaction_fits, sent_fits, stopped_fits, new_fits, released_fits}
-use Rattle.coap_model.proofs.world.WalkLaws.{settled_keeps, observers_kept, release_fits, room_in, sent, without_first}
-use Rattle.coap_model.proofs.world.WalkLaws.{Hears, Replies, Between, once_between, after_between, faulted_between}
-use Rattle.coap_model.proofs.world.WalkLaws.{written_between, ended_between, released_between, announced_between}
-use Rattle.coap_model.proofs.world.WalkLaws.{responded_between}
+use Rattle.coap_model.proofs.world.WalkLaws.{observers_plain, observers_responded, settled_keeps, release_fits, room_in}
+use Rattle.coap_model.proofs.world.WalkLaws.{sent, without_first, Hears, Replies, Between, once_between, after_between}
+use Rattle.coap_model.proofs.world.WalkLaws.{faulted_between, written_between, ended_between, released_between}
+use Rattle.coap_model.proofs.world.WalkLaws.{announced_between, responded_between}
 use Rattle.coap_model.proofs.world.AcrossLaws.{KeepsAll, keeping_composes, HoldsOf, step_across, opened_there}
 use Rattle.coap_model.proofs.world.GoingOn.{GoesOn, all_go_on, call_goes_on, Keeps}
 use Rattle.coap_conn.proofs.ReactionLaws.{abort_one, react_so}
@@ -34,9 +34,7 @@ use Rattle.coap_model.proofs.world.RespondedLaws.{request_fewer, responded_small
 use Rattle.coap_conn.proofs.ApplicationLaws.{responded_fits}
 use Rattle.coap_model.proofs.OptionLemmas.{same_there}
 use Rattle.coap_wire.proofs.NumberLaws.{none_or_some}
-use Rattle.coap_conn.specs.Calls as call
 use Rattle.coap_wire.specs.Codes as code
-use Rattle.coap_conn.specs.declared.reason.Reason.TheVariants as reason
 use Rattle.coap_model.specs.world.World as world
 
 -- ---- observers
@@ -58,19 +56,14 @@ pub few_keeps : (limits : LimitValues) (a : Option ApplicationsValue)
     → Keeps limits a (λ s. length s.observers ≤ limits.observers)
 few_keeps limits a =
     let Few : List Observer → Type 0 = λ os. length os ≤ limits.observers in
-    let kept = observers_kept Few (omega arith) in
     record {
       first = omega arith;
       -- An entry is added only if there is a place for it.
       handled = λ store now s m same is few. observers_after Few store now s m (omega arith) few
           (omega (arith, few, token_fewer m.token s.observers)) (λ requested place.
           grind (arith, call_goes_on, length-append));
-      faulted = kept.faulted;
-      written = kept.written;
-      ended = kept.ended;
-      released = kept.released;
-      announced = kept.announced;
-      responded = kept.responded;
+      plain = observers_plain Few (omega arith);
+      responded = observers_responded Few (omega arith);
       reported = λ store now s few.
           grind (
             arith,
@@ -100,15 +93,9 @@ all_hold_few = record {
   takes_input = λ h m takes room few. pending_few (state_now h) m few;
   replies =
       λ h token observe r does room. grind (arith, sent_few h);
-  holds = λ h by token moment opened may few.
-      omega (
-        arith,
-        ltb-true (length h.pending) h.limits.pending may,
-        length-append h.pending (Answer by token moment ∷ []),
-      );
+  holds = λ h by token moment opened may few. grind (arith, ltb-true, length-append);
   lets_go = taken_few;
-  pongs = λ h now token due room few. sent_few (without_first h now) (pong_with true token)
-      (pong_with false token) (taken_few h now few);
+  pongs = λ h now token due room few. grind (arith, sent_few, taken_few);
   rejects = λ h fault takes room few. omega arith;
   ends = λ h cut takes few. omega arith;
   releases = λ h opened none few. omega arith;
@@ -125,13 +112,7 @@ sent_one s m less r = grind arith
 
 -- A message queues at most one message.
 message_one : (s : ConnectionState) (m : Message) → length (react s m).effect.queued ≤ 1
-message_one s m = react_so s m (λ e. length e.queued ≤ 1) (record {
-  stays = omega arith;
-  silent = λ now outstanding silent. omega arith;
-  stops = λ why farewell plain one may. one;
-  queues = λ n no. omega arith;
-  keeps = λ ping custody some. omega arith;
-})
+message_one s m = react_so s m (λ e. length e.queued ≤ 1) (grind arith)
 
 -- The queued bytes do not exceed the size of the queue.
 pub record Waits (h : History) : Type 0 where
@@ -248,8 +229,7 @@ message_grows h m takes room =
 once_evenly : (store : StoreValue) (now : ℕ) (s : Connection) → Between GrowsEvenly s (settled_once store now s)
 once_evenly =
     once_between GrowsEvenly GrowsEvenly evenly_self evenly_then reply_evenly (λ h now. same_evenly h _ refl refl)
-    (λ h now token due room. effect_evenly h _
-    (sent_fits (without_first h now) (pong_with true token) (pong_with false token)))
+    (λ h now token due room. grind (arith, effect_evenly, sent_fits))
 
 grows_of : (w : World) (st : Step) (id : ℕ) → HoldsOf (Between GrowsFitting) w st id
 grows_of w st id = let same : (h : History) → GrowsFitting h h = λ h. (evenly_self h).grows in record {
@@ -262,7 +242,7 @@ grows_of w st id = let same : (h : History) → GrowsFitting h h = λ h. (evenly
   written = written_between GrowsFitting same (λ h n within. (same_evenly h _ refl refl).grows);
   ended =
       ended_between GrowsFitting same
-      (λ h cut takes. (effect_evenly h (stop (state_now h) (end_reason cut) []) tt).grows);
+      (λ h cut takes. grind (arith, effect_evenly));
   released = released_between GrowsFitting same (λ h opened none.
       grind (arith, effect_evenly, released_fits));
   responded =

@@ -1,6 +1,6 @@
 -- The connections of a world by id: the connection with an id after each change of the list.
 use Rattle.std.proofs.Common.{List, None, Option, Some, [], arith, filter, inl, inr, map, not, option_map, refl, rules}
-use Rattle.std.proofs.Common.{subst, sym, ℕ, ◌++◌, ◌==◌, ◌∙◌, ◌∷◌, ◌≡◌, ◌≢◌, ◌⊎◌}
+use Rattle.std.proofs.Common.{sym, ℕ, ◌++◌, ◌==◌, ◌∙◌, ◌∷◌, ◌≡◌, ◌≢◌, ◌⊎◌}
 use Rattle.std.proofs.lemmas.Bool.Decides.{nat_tests}
 use Rattle.std.proofs.lemmas.Bool.{cond_both, eq-eqb, ne_eqb}
 use Rattle.std.proofs.lemmas.Iterator.Adapters.{option_map_id}
@@ -157,7 +157,7 @@ pub of_number : (P : ℕ → Connection → Type 0) (id : ℕ) (s : Connection) 
 of_number P id s [] each e = absurd (none_or_some s (sym (nobody id) ∙ e))
 of_number P id s (p ∷ ps) each e =
     by_first (λ there. there ≡ Some s → P id s) id p ps
-    (λ here is. subst (λ (n : ℕ). P n s) here (subst (P p.id) (same_there p.side s is) each.0))
+    (λ here is. grind (arith, same_there))
     (λ apart is. of_number P id s ps each.1 is) e
 
 -- If ids are distinct, a property of the connection of each id holds of every connection.

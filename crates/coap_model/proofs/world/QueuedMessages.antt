@@ -94,13 +94,7 @@ pub message_queues : (h : History) (m : Message) → h.role ≡ Server → takes
     → QueuesOn IsNoResponse (m ∷ []) h (after h (call.Handle m))
 message_queues h m server takes =
     let signals : AllByRecursion IsNoResponse (react (state_now h) m).effect.queued =
-    react_so (state_now h) m (λ e. AllByRecursion IsNoResponse e.queued) (record {
-      stays = tt;
-      silent = λ now outstanding silent. tt;
-      stops = λ why farewell plain one may. grind (arith, all_to);
-      queues = λ n is. (is server, tt);
-      keeps = λ ping custody some. tt;
-    }) in
+    react_so (state_now h) m (λ e. AllByRecursion IsNoResponse e.queued) (grind (arith, all_to)) in
     grind arith
 
 pub reject_queues : Rejects (Queues IsPlain)

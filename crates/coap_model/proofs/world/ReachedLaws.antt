@@ -1,7 +1,7 @@
 -- Properties of the world after any accepted events: each id is used once, and the stream of a connection that accepts
 -- messages has no error.
 use Rattle.std.proofs.Common.{◌≡◌, ℕ, ◌+◌, ◌<◌, ◌≤◌, true, cond, List, [], ◌∷◌, length, map, Option, Some, None, refl}
-use Rattle.std.proofs.Common.{sym, ap, ◌∙◌, arith, ◌++◌, take, Result, Ok, Err, inl, inr}
+use Rattle.std.proofs.Common.{sym, ap, ◌∙◌, arith, ◌++◌, take, Result, Ok, Err, inl, inr, rules}
 use Rattle.coap_model.specs.Prelude.{AllByRecursion, StreamFault, Stream, frame_then, LimitValues, takes_messages}
 use Rattle.coap_model.specs.Prelude.{ConfigValues, Connection, handles, side_after, side_faulted, side_written}
 use Rattle.coap_model.specs.Prelude.{side_ended, side_released, side_announced, side_responded, settled, may_raise}
@@ -42,7 +42,7 @@ pub record KeptByStep (P : World → Type 0) (limits : LimitValues) (w : World) 
   pub changed : (v : World) (g : ConnectionEntry → ConnectionEntry) → ((p : ConnectionEntry) → (g p).id ≡ p.id) → P v
       → P (record v { sides = map g v.sides })
   pub reported : (v : World) (store : StoreValue) (now : ℕ) → P v → P (record v { store = store; now = now })
-  pub dropped : (id : ℕ) → P (record w { sides = but id w.sides })
+  pub dropped : (id : ℕ) → st ≡ world.Dropped id → P (record w { sides = but id w.sides })
 
 module _ (P : World → Type 0) (limits : LimitValues) (w : World) (holds : P w) where
   acted_keeps : (st : Step) → KeptByStep P limits w st → P (acted limits w st)
@@ -52,7 +52,7 @@ module _ (P : World → Type 0) (limits : LimitValues) (w : World) (holds : P w)
   acted_keeps (world.Ticked now) keeps = grind arith
   acted_keeps (world.Stored path format bytes) keeps = grind arith
   acted_keeps (world.Removed path) keeps = grind arith
-  acted_keeps (world.Dropped id) keeps = keeps.dropped id
+  acted_keeps (world.Dropped id) keeps = keeps.dropped id refl
   acted_keeps _ keeps = grind (arith, changed_id)
 
   pub step_keeps : (st : Step) → KeptByStep P limits w st → P (world.step limits w st)
@@ -62,12 +62,12 @@ module _ (P : World → Type 0) (limits : LimitValues) (w : World) (holds : P w)
 -- The ids of connections are distinct.
 pub step_distinct : (limits : LimitValues) (w : World) (s : Step) → AreDistinct w.sides
     → AreDistinct (world.step limits w s).sides
-step_distinct limits w s distinct = step_keeps (λ v. AreDistinct v.sides) limits w distinct s (record {
-  opened = λ id is free. distinct_more w.sides _ distinct free;
-  changed = λ v g keeps still. distinct_mapped g keeps v.sides still;
-  reported = λ v store now still. still;
-  dropped = λ id. distinct_but id w.sides distinct;
-})
+step_distinct limits w s distinct = step_keeps (λ v. AreDistinct v.sides) limits w distinct s (grind (
+  arith,
+  distinct_more,
+  distinct_mapped,
+  distinct_but,
+))
 
 -- The same after any events, accepted or not.
 pub events_distinct : (c : ConfigValues) (es : List AcceptedCall) → AreDistinct (world_after c es).sides
@@ -100,16 +100,11 @@ module _ (c : ConfigValues) (w : World) where
   pub opens : (id : ℕ) → IsNumbered c w → id ≡ w.ids + 1
       → acted c.limits w (world.Opened id) ≡ opened_world c.limits w id
   unfolding acted
-  opens id is next = grind (arith, opened_world, number_given id)
+  opens id is next = grind (arith, number_given id)
 
   -- The last id never decreases.
   pub ids_grow : (s : Step) → OpensNext c w s → w.ids ≤ (world.step c.limits w s).ids
-  ids_grow s next = step_keeps (λ v. w.ids ≤ v.ids) c.limits w (omega arith) s (record {
-    opened = λ id opened free. grind arith;
-    changed = λ v g keeps grown. grown;
-    reported = λ v store now grown. grown;
-    dropped = λ id. omega arith;
-  })
+  ids_grow s next = step_keeps (λ v. w.ids ≤ v.ids) c.limits w (omega arith) s (grind arith)
 
   step_numbered : (s : Step) → IsNumbered c w → OpensNext c w s → IsNumbered c (world.step c.limits w s)
   step_numbered s is next = step_keeps (IsNumbered c) c.limits w is s (record {
@@ -121,7 +116,7 @@ module _ (c : ConfigValues) (w : World) where
       few = grind (arith, length-map);
     };
     reported = λ v store now still. grind arith;
-    dropped = λ id. grind (arith, all_filter, length-filter, count_by-le-length);
+    dropped = λ id at. grind (arith, all_filter, length-filter, count_by-le-length);
   })
 
 -- ---- worlds after accepted events
@@ -312,9 +307,16 @@ module _ (c : ConfigValues) (es : List AcceptedCall) (id : ℕ) (bytes : List �
 
   -- A take that makes no step.
   quiet_reached : steps_by c.limits.max_message es e ≡ [] → NoFault (world_after c es) → IsReached c (es ++ e ∷ [])
-  quiet_reached none own =
-      reached_by c es before e (world_after c es) (world_same c es e none) before.numbered (omega arith) quiet_elsewhere
-      (λ k t at. took_matches (world_after c es) own k t at (before.goes_on k t at, before.sizes k t at))
+  quiet_reached none own = search (
+    rules,
+    reached_by,
+    world_same,
+    before.numbered,
+    quiet_elsewhere,
+    took_matches,
+    before.goes_on,
+    before.sizes,
+  )
 
   -- A take that makes a step.
   stepped_reached : (st : Step) → steps_by c.limits.max_message es e ≡ st ∷ [] → OpensNext c (world_after c es) st
@@ -333,8 +335,7 @@ module _ (c : ConfigValues) (es : List AcceptedCall) (id : ℕ) (bytes : List �
       let w = world_after c es in
       stepped_reached (world.Faulted id fault) adds.steps tt (λ n size is. cc) (λ t at takes.
       let same = same_there _ t (sym (faulted_there c.limits w id fault s there) ∙ at) in
-      absurd (both_ways _ ((settled_goes_on w.store w.now (side_faulted s fault)).over (faulted_stops s fault does))
-      (rw (← same) at takes)))
+      absurd (grind (arith, both_ways, settled_goes_on, faulted_stops)))
 
   -- A frame, with the message that it encodes or its error.
   frame_reached : (frame : List ℕ) (read : Result Message FormatFault) → handles s ≡ true → Adds c.limits.max_message id

@@ -6,11 +6,9 @@ use Rattle.coap_model.specs.Prelude.{free_in, limit_in, LinkValue, bytes_of, Con
 use Rattle.std.proofs.lemmas.Bool.Decides.{nat_tests}
 use Rattle.std.proofs.lemmas.Bool.{ltb-false}
 use Rattle.std.proofs.lemmas.List.{length-append}
-use Rattle.coap_conn.specs.declared.phase.RespondFault.TheVariants as fault
 use Rattle.coap_conn.proofs.ApplicationLaws.{first_request}
 use Rattle.coap_conn.proofs.ReactionLaws.{IsNoPong}
 use Rattle.coap_model.proofs.world.AnswerCodes.{bare_coded}
-use Rattle.coap_wire.specs.Codes as code
 
 -- ---- a response without an error
 

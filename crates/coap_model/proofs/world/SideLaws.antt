@@ -16,10 +16,9 @@ use Rattle.coap_model.proofs.world.KnownLaws.{not_due, left_watchable}
 use Rattle.coap_model.proofs.world.EntryLemmas.{asks_to_enter, all_to, all_append, all_filter, all_become, found_all}
 use Rattle.coap_model.proofs.world.EntryLemmas.{none_due, count_due, count_within, count_less, none_found}
 use Rattle.coap_model.proofs.world.GoingOn.{as_before, further, GoesOn, all_go_on, plain_goes_on}
-use Rattle.coap_model.proofs.world.WalkLaws.{kept_open_has, once_between, PlainCall, observers_kept, observers_plain}
-use Rattle.coap_model.proofs.world.WalkLaws.{settled_keeps, responded_between}
+use Rattle.coap_model.proofs.world.WalkLaws.{kept_open_has, once_between, PlainCall, observers_plain}
+use Rattle.coap_model.proofs.world.WalkLaws.{observers_responded, settled_keeps, responded_between}
 use Rattle.coap_model.proofs.world.AcrossLaws.{after_all}
-use Rattle.coap_conn.specs.PendingEntries as pending
 use Rattle.coap_conn.specs.Calls as call
 use Rattle.coap_store.specs.declared.plan.Watch.TheVariants as watch
 
@@ -94,7 +93,7 @@ plain_known store s t call known =
 pub responded_known : (store : StoreValue) (s : Connection) (m : Message) → IsKnownSide store s
     → IsKnownSide store (side_responded s m)
 responded_known store s m known =
-    grind (arith, responded_between GoesOn as_before all_go_on.responds s m, observers_kept (AreKnown store) tt)
+    grind (arith, responded_between GoesOn as_before all_go_on.responds s m, observers_responded (AreKnown store) tt)
 
 -- A property of the observers after a message. It must hold of no observers, and of the observers before. It must also
 -- hold of those without the message's token, and of these with its entry if there is a place for it.
@@ -200,17 +199,7 @@ pub once_less : (store : StoreValue) (now : ℕ) (s : Connection)
     → IsAtRest store now s ⊎ (left_on store now (settled_once store now s) + 1 ≤ left_on store now s)
 unfolding settled_once
 once_less store now s =
-    grind (
-      arith,
-      count_less,
-      left_quiet,
-      next_due_found,
-      reply_leaves,
-      count_if,
-      due_fewer,
-      pending_room,
-      sent_leaves,
-    )
+    grind (arith, count_less, left_quiet, next_due_found, reply_leaves, count_if, due_fewer, pending_room, sent_leaves)
 
 rests_by : (turns : ℕ) (store : StoreValue) (now : ℕ) (s : Connection) → left_on store now s ≤ turns
     → IsAtRest store now (settled_within turns store now s)

@@ -94,7 +94,7 @@ unfolding AreAcceptedAfter
 by_later_events c P go a [] before holds all = subst P (sym (append-nil a)) holds
 by_later_events c P go a (e ∷ es) before holds all =
     subst P (append_assoc a (e ∷ []) es)
-    (by_later_events c P go (a ++ e ∷ []) es (accepted_more c a e before all.0) (go a e before all.0 holds) all.1)
+    (grind (arith, accepted_more, by_later_events c P go (a ++ e ∷ []) es))
 
 pub by_events : (c : ConfigValues) (P : List AcceptedCall → Type 0) → P []
     → ((es : List AcceptedCall) (e : AcceptedCall) → AreAccepted c es → IsAccepted c es e → P es → P (es ++ e ∷ []))
@@ -163,9 +163,7 @@ sizes_before M id (d ∷ es) e at within =
 -- The bytes of an event are read with the sizes before it.
 pub read_before : (M id : ℕ) (es : List AcceptedCall) (e : AcceptedCall)
     → stream_on M id (es ++ e ∷ []) ≡ sized_split (sizes_on M id es) (taken_on id es ++ taken_in id e)
-read_before M id es e =
-    split_same_to (sizes_on M id (es ++ e ∷ [])) (sizes_on M id es) (taken_on id (es ++ e ∷ []))
-    (sizes_before M id es e) ∙ rw (taken_then id es e) refl
+read_before M id es e = grind (arith, split_same_to, sizes_before, taken_then)
 
 -- An event without bytes of a connection does not change its stream: any event but `Took`, by refl, and `Took` of
 -- another connection.
@@ -198,9 +196,7 @@ stream_elsewhere M id other es bytes apart =
 -- The bytes of an event continue the stream with the current size.
 stream_by : (M id : ℕ) (es : List AcceptedCall) (e : AcceptedCall)
     → stream_on M id (es ++ e ∷ []) ≡ split_on (size_on M id es) (stream_on M id es) (taken_in id e)
-stream_by M id es e =
-    read_before M id es e ∙ went_on (sizes_on M id es) (size_on M id es) (taken_on id es) (taken_in id e)
-    (sizes_within M id es) (sizes_now M id es)
+stream_by M id es e = grind (arith, read_before, went_on, sizes_within, sizes_now)
 
 pub stream_more : (M id : ℕ) (es : List AcceptedCall) (bytes : List ℕ)
     → stream_on M id (es ++ Took id bytes ∷ []) ≡ split_on (size_on M id es) (stream_on M id es) bytes

@@ -1,6 +1,6 @@
 -- The effect of a `Took` event on the stream of its connection, and the steps that it makes.
 use Rattle.std.proofs.Common.{◌≡◌, ℕ, ◌+◌, ◌-◌, ◌≤◌, List, [], ◌∷◌, ◌++◌, length, map, take, get_or, Some, None, Ok}
-use Rattle.std.proofs.Common.{Err, refl, sym, ◌∙◌, append_assoc, arith}
+use Rattle.std.proofs.Common.{Err, refl, sym, ◌∙◌, append_assoc, arith, rules}
 use Rattle.std.proofs.lemmas.Grind.{take_at_read}
 use Rattle.std.proofs.lemmas.List.{length-append, take_at}
 use Rattle.std.proofs.Math.Seq.{drop-length, drop-append_seam}
@@ -12,7 +12,7 @@ use Rattle.coap_wire.proofs.StreamSteps.{whole_itself, split_unfinished}
 use Rattle.coap_frame.specs.Framing.{Nothing}
 use Rattle.coap_frame.proofs.FramingLemmas.{front_unfinished}
 use Rattle.coap_frame.proofs.GivenLaws.{taken_within, frame_taken}
-use Rattle.coap_frame.proofs.FrontLaws.{nothing_finished, frame_first, added_by, added_whole, added_front}
+use Rattle.coap_frame.proofs.FrontLaws.{nothing_finished, added_by, added_whole, added_front}
 use Rattle.coap_model.specs.world.World as step
 use Rattle.coap_model.specs.world.Events.{front_of}
 use Rattle.coap_model.proofs.world.StepLaws.{stream_same, taken_here, stream_more, rest_unfinished}
@@ -52,9 +52,7 @@ module _ (M id : ℕ) (es : List AcceptedCall) (bytes : List ℕ) (none : (strea
 
   pub adds_nothing : framing_found.finding ≡ Nothing
       → Adds M id es bytes (record { messages = []; rest = (stream_on M id es).rest ++ bytes; fault = None })
-  adds_nothing e =
-      adds _
-      (split_unfinished N ((stream_on M id es).rest ++ bytes) (nothing_finished N (stream_on M id es).rest bytes e))
+  adds_nothing e = search (rules, adds, split_unfinished, nothing_finished)
 
   -- If all bytes are accepted, they add the frame or error that was found.
   pub adds_frame : framing_found.taken ≡ length bytes
@@ -82,14 +80,12 @@ module _ (M : ℕ) (kept piece frame : List ℕ) (n : ℕ) (u : prefix_kind M ke
   pub but_last_unfinished : framing M kept (take n piece) ≡ framing_at kept (take n piece) Unfinished
   unfolding framing
   but_last_unfinished =
-      let first = frame_first M kept piece frame is in
       let front : List ℕ = kept ++ take n piece in
       let last : List ℕ = get_or piece n 0 ∷ [] in
       let cut : take (n + 1) piece ≡ take n piece ++ last = (take_at_read piece n 0 (omega (arith, front_within))).1 in
       let bytes : frame ≡ front ++ last =
       frame_taken M kept piece frame u is ∙ rw (all, cut) (sym (append_assoc kept (take n piece) last)) in
-      let but_last : without_last frame ≡ front =
-      rw bytes (take_at front last (length (front ++ last) - 1) (omega (arith, length-append front last))) in
+      let but_last : without_last frame ≡ front = grind (arith, take_at, length-append) in
       grind (arith, front_unfinished, whole_itself)
 
 -- ---- the bytes accepted of an input slice

@@ -14,8 +14,8 @@ use Rattle.coap_model.proofs.world.AcrossLaws.{world_keeps}
 use Rattle.std.proofs.lemmas.List.{append-nil}
 use Rattle.coap_model.specs.world.World as world
 use Rattle.coap_model.specs.world.View.{change_by}
-use Rattle.coap_model.proofs.world.StepLaws.{size_stays, spelled_by, spelled_then, spelled_same, first_spelled}
-use Rattle.coap_model.proofs.world.StepLaws.{each_beyond, world_first, world_more, world_step, accepted_more, by_events}
+use Rattle.coap_model.proofs.world.StepLaws.{size_stays, spelled_then, spelled_same, first_spelled, each_beyond}
+use Rattle.coap_model.proofs.world.StepLaws.{world_first, world_more, world_step, accepted_more, by_events}
 use Rattle.coap_model.proofs.world.PlaceLaws.{nobody}
 use Rattle.coap_model.proofs.world.ReachedLaws.{accepted_is, opens, step_keeps}
 use Rattle.coap_model.proofs.world.ViewLaws.{IsNotRefused, by_passes, share, share_of, settled_share, SettlesAlike}
@@ -48,7 +48,7 @@ own_steps : (limits : LimitValues) (id n : ℕ) (ss : List Step) (w v : World)
 unfolding after_steps
 own_steps limits id n [] w v each alike = alike
 own_steps limits id n (s ∷ ss) w v each alike =
-    grind (arith, own_steps limits id n ss, renamed, own_alike)
+    grind (arith, own_steps limits id n ss, own_alike)
 
 -- The id of an event's connection; `id` for an event of no connection.
 abbrev number : ℕ → AcceptedCall → ℕ
@@ -180,7 +180,6 @@ module _ (c : ConfigValues) (id : ℕ) where
         view_change w spelled ids vs is next (change_by w s) (by_passes w s) rests,
         by_passes w s,
         step_share,
-        settled_share,
         other_did,
       )
 
@@ -214,7 +213,7 @@ module _ (c : ConfigValues) (id : ℕ) where
     -- An event of the connection itself, or of none.
     spells_then : (e : AcceptedCall) → number id e ≡ id
         → spelled_on M id (es ++ e ∷ []) ≡ spelled_on M n (vs ++ moved n e ∷ [])
-    spells_then e own = grind (arith, spelled_then, spelled_by, same_taken, same_size)
+    spells_then e own = grind (arith, spelled_then, same_taken, same_size)
 
     own_makes : (e : AcceptedCall) → number id e ≡ id → steps_by M vs (moved n e) ≡ map (renamed n) (steps_by M es e)
     unfolding steps_by
@@ -231,18 +230,17 @@ module _ (c : ConfigValues) (id : ℕ) where
     own_accepted e own ok = grind (arith, accepted_is)
 
     own_sees : (e : AcceptedCall) → number id e ≡ id → IsAccepted c es e → Sees (es ++ e ∷ []) (vs ++ moved n e ∷ [])
-    own_sees e own ok =
-        grind (
-          arith,
-          world_more,
-          own_makes,
-          own_steps,
-          own_concern,
-          spells_then,
-          accepted_more,
-          own_accepted,
-          fresh_then,
-        )
+    own_sees e own ok = grind (
+      arith,
+      world_more,
+      own_makes,
+      own_steps,
+      own_concern,
+      spells_then,
+      accepted_more,
+      own_accepted,
+      fresh_then,
+    )
 
     own_view : (e : AcceptedCall) → number id e ≡ id → view_event c id es e ≡ moved n e ∷ []
     unfolding view_event
@@ -260,7 +258,7 @@ module _ (c : ConfigValues) (id : ℕ) where
     other_sees e apart ok =
         let rests = world_keeps c (SettlesAlike id) (λ u s was. step_rests c.limits id u s) (new_rests c id) es in
         let is = view_others (steps_by M es e) w (spelled_on M id es) w.ids vs (other_steps e apart) rests sees in
-        grind (arith, share_of, world_more, spelled_same, nat_tests, last_rises)
+        grind (arith, world_more, spelled_same, nat_tests, last_rises)
 
     other_view : (e : AcceptedCall) → number id e ≢ id
         → view_event c id es e ≡ changes_of c.limits w (steps_by M es e)

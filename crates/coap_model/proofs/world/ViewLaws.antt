@@ -61,8 +61,7 @@ answer_passes s now path m =
     let P : Answer → Type 0 = λ a. IsNotRefused s a.change in
     answer_cases P s t m (λ c e. tt) (record {
       read = λ r is. grind (arith, get_cases P t.place r m);
-      deleted = λ dynamic other.
-          (deletion_by s now path (key_for path) (state_at s now (key_for path) (kind_of_path path)) dynamic refl refl);
+      deleted = λ dynamic other. grind (arith, deletion_by);
       stored = λ dynamic other.
           grind (arith, store_cases P s t m, stored_passes s t.key t.state m, put_passes s now path);
     })
@@ -196,16 +195,7 @@ pub other_did : (limits : LimitValues) (id : ℕ) (w : World) (s : Step) → con
     → share_of id (acted limits w s) ≡ share (changed w.store (change_by w s)) w.now (side_of id w.sides)
 unfolding concerns acted
 other_did limits id w s apart =
-    grind (
-      arith,
-      opened_world,
-      other_more,
-      eqb-false,
-      changed_elsewhere,
-      stored_by_change,
-      changed_apart,
-      dropped_elsewhere,
-    )
+    grind (arith, other_more, eqb-false, changed_elsewhere, stored_by_change, changed_apart, dropped_elsewhere)
 
 -- ---- the view of a step has the same effect
 

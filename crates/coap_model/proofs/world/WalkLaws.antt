@@ -239,22 +239,14 @@ module _ (R : History → History → Type 0) (same : (h : History) → R h h) w
 
 -- ---- observers
 
--- The relation holds across every effect on a connection other than a message.
-pub record HoldsOfCalls (R : Connection → Connection → Type 0) : Type 0 where
-  pub faulted : (s : Connection) (fault : StreamFault) → R s (side_faulted s fault)
-  pub written : (s : Connection) (n : ℕ) → R s (side_written s n)
-  pub ended : (s : Connection) (cut : Bool) → R s (side_ended s cut)
-  pub released : (s : Connection) → R s (side_released s)
-  pub announced : (s : Connection) (size : ℕ) → R s (side_announced s size)
-  pub responded : (s : Connection) (m : Message) → R s (side_responded s m)
-
 -- A property of the observers, and of no observers, holds if they are removed unless the connection is open.
 pub kept_open_has : (P : List Observer → Type 0) → P [] → (h : History) (os : List Observer) → P os → P (kept_open h os)
 kept_open_has P none h os is = grind arith
 
-pub observers_kept : (P : List Observer → Type 0) → P [] → HoldsOfCalls (λ s t. P s.observers → P t.observers)
-unfolding side_faulted side_written side_ended side_released side_announced side_responded
-observers_kept P none = grind (arith, kept_open_has)
+pub observers_responded : (P : List Observer → Type 0) → P [] → (s : Connection) (m : Message) → P s.observers
+    → P (side_responded s m).observers
+unfolding side_responded
+observers_responded P none s m = kept_open_has P none (after s.history (call.Respond m)) s.observers
 
 pub observers_plain : (P : List Observer → Type 0) → P [] → (s t : Connection) → PlainCall s t → P s.observers
     → P t.observers

@@ -17,9 +17,9 @@ use Rattle.coap_model.specs.Prelude.{concerns, view_step, view_of, is_answered, 
 use Rattle.coap_model.specs.Prelude.{side_responded, with_fate, requests_after, requests_responded, requests_once}
 use Rattle.coap_model.specs.Prelude.{requests_within, requests_settled, requests_acted, requests_then, requests_by}
 use Rattle.coap_model.specs.Prelude.{requests_on, ConfigValues, Message, new_world, Answer, Pong, Engine, Application}
-use Rattle.coap_model.specs.Prelude.{FollowsAnswers, HaveDistinctAnswers, asks_pong, pong_with, responds}
-use Rattle.coap_model.specs.Prelude.{CorrespondTo, AcceptedCall, Opened, Took, Wrote, Ticked, Ended, Responded, Dropped}
-use Rattle.coap_model.specs.Prelude.{Announced, Fate, Unanswered, Answered, late_message, refusal_of}
+use Rattle.coap_model.specs.Prelude.{FollowsAnswers, HaveDistinctAnswers, asks_pong, pong_with, responds, CorrespondTo}
+use Rattle.coap_model.specs.Prelude.{AcceptedCall, Opened, Took, Wrote, Ticked, Ended, Responded, Dropped, Announced}
+use Rattle.coap_model.specs.Prelude.{Fate, Unanswered, Answered, late_message, refusal_of}
 use Rattle.coap_store.specs.Requests.{values_of}
 use Rattle.coap_wire.specs.StreamPrefix.{prefix_kind}
 use Rattle.coap_wire.specs.Frames.{frames_within, sized_frames}

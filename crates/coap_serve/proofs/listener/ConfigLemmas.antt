@@ -1,16 +1,20 @@
--- The configuration of a server, which no part of a run changes. So the buffer for responses keeps its room.
+-- The configuration of a server, which no part of a run changes, so the buffer for responses keeps its room. The calls
+-- of a run, each of which a script can make again.
 use Rattle.std.proofs.Common.{◌≡◌, ◌≤◌, ◌∙◌, ℕ, List, [], ◌∷◌, Option, Result, Ok, Err, OnErr, OnOk, ap, inl, inr, refl}
-use Rattle.std.proofs.Common.{None, Some}
-use Rattle.coap_server_engine.specs.values.ApplicationCalls.{AreGivenLater, HasResponseRoom, NothingGiven, OneMoreGiven}
+use Rattle.std.proofs.Common.{arith, Bool, true, false, Some, None, is_none, nat_le, ◌==◌, ◌+◌, if◌then◌else◌}
 use Rattle.coap_server_engine.proofs.values.RoomLemmas.{more_room, offered_config, partly_config, served_config}
 use Rattle.coap_model.specs.declared.answers.ReleaseFault.{ReleaseFault}
-use Rattle.coap_serve.specs.Prelude.{AcceptedCall, AreSteps, ConfigValues, Exchange, HasServed, History}
-use Rattle.coap_serve.specs.Prelude.{ServerValue, acted, released_refusal, silence_action, status_of, swept, swept_one}
-use Rattle.coap_serve.specs.declared.door.peer.Peer.{Peer}
-use Rattle.coap_serve.specs.declared.door.silence.SilenceAction.{SilenceAction}
-use Rattle.coap_serve.specs.declared.door.silence.SilenceAction.TheVariants.{Keep, Release, Drop}
-use Rattle.coap_serve.specs.listener.Histories.{NoStep, OneMore}
-use Rattle.coap_serve.specs.listener.Serving.{BytesTaken, BytesWritten, ConnectionDropped, InputEnded, IsVisitStep}
+use Rattle.coap_serve.specs.Prelude.{AcceptedCall, AreSteps, ConfigValues, Exchange, HasServed, History, ServerValue}
+use Rattle.coap_serve.specs.Prelude.{acted, released_refusal, silence_action, status_of, swept, swept_one}
+use Rattle.coap_serve.specs.Prelude.{AreGivenLater, HasResponseRoom, NothingGiven, OneMoreGiven, Peer, SilenceAction}
+use Rattle.coap_serve.specs.Prelude.{NoStep, OneMore, BytesTaken, BytesWritten, ConnectionDropped, InputEnded}
+use Rattle.coap_serve.specs.Prelude.{IsVisitStep, Message, FormatFault, Opened, Took, Wrote, Ticked, Ended, Released}
+use Rattle.coap_serve.specs.Prelude.{Responded, Dropped, responded_refusal, response_event, asking, offered_events}
+use Rattle.coap_serve.specs.Prelude.{served, IsRunCall, IsRunStep, LaterGiven, SilentDropped, SilentReleased, TimeSet}
+use Rattle.coap_serve.specs.Prelude.{TurnMade, moved_calls, ticked_calls, AreTakenWith, opening}
+use Rattle.std.specs.Prelude.{All}
+use Rattle.std.proofs.lemmas.List.Elements.{All-append, All-cons, All-nil, All-push}
+use Rattle.coap_wire.specs.Reading.{message_of}
 
 -- The buffer has room for another server with the same configuration, also if it was enlarged.
 pub keeps_room : {c after : ConfigValues} {small large : ℕ} → after ≡ c → small ≤ large → HasResponseRoom c small
@@ -20,8 +24,7 @@ keeps_room {c = c} is more room = rw is (more_room c more room)
 -- A call that may fail.
 pub config_or_not : {T E : Type 0} (r : Result T E) (v after next : ServerValue) → next.config ≡ v.config
     → OnOk r (after ≡ next) → OnErr r (after ≡ v) → after.config ≡ v.config
-config_or_not (Ok x) v after next same ok err = ap (λ u. u.config) ok ∙ same
-config_or_not (Err e) v after next same ok err = ap (λ u. u.config) err
+config_or_not r v after next same ok err = grind arith
 
 -- ---- connections that are served
 
@@ -38,8 +41,7 @@ visits_config : {v after : ServerValue} {h : History} → AreSteps IsVisitStep v
 visits_config NoStep = refl
 visits_config (OneMore w after h more so_far step) = visit_config step ∙ visits_config so_far
 
-pub served_same : {Known : History → Type 0} {v after : ServerValue} → HasServed Known v after
-    → after.config ≡ v.config
+pub served_same : {Known : History → Type 0} {v after : ServerValue} → HasServed Known v after → after.config ≡ v.config
 served_same made = visits_config made.made
 
 -- ---- later responses
@@ -54,10 +56,7 @@ later_config (OneMoreGiven n u events exchanges id bytes outcome so_far refused 
 
 acted_config : {W : Type 0} (action : SilenceAction) (refusal : Option ReleaseFault) (now : ℕ) (v : ServerValue)
     (e : ℕ × Peer W) → (acted action refusal now v e).server.config ≡ v.config
-acted_config Keep refusal now v e = refl
-acted_config Release None now v e = refl
-acted_config Release (Some fault) now v e = refl
-acted_config Drop refusal now v e = refl
+acted_config action refusal now v e = grind arith
 
 pub swept_config : {W : Type 0} (idle now : ℕ) (v : ServerValue) (es : List (ℕ × Peer W))
     → (swept idle now v es).server.config ≡ v.config
@@ -66,3 +65,100 @@ swept_config idle now v [] = refl
 swept_config idle now v (e ∷ es) =
     swept_config idle now (swept_one idle now v e).server es
     ∙ acted_config (silence_action idle now (status_of v e.0) e.1.activity) (released_refusal v e.0) now v e
+
+-- ---- the calls of a run
+
+only : (e : AcceptedCall) → IsRunCall e → All IsRunCall (e ∷ [])
+only e is = All-cons IsRunCall e [] is (All-nil IsRunCall)
+
+-- ---- responses
+
+response_made : (id : ℕ) (r : Result Message FormatFault) → All IsRunCall (response_event id r)
+response_made id (Ok m) = only (Responded id m) tt
+response_made id (Err e) = All-nil IsRunCall
+
+offered_made : (v : ServerValue) (id : ℕ) (bytes : List ℕ) → All IsRunCall (offered_events v id bytes)
+offered_made v id bytes =
+    elim (is_none (responded_refusal v id bytes))
+    as (λ given. All IsRunCall (if given then response_event id (message_of bytes) else [])) [
+      | true ↦ response_made id (message_of bytes)
+      | false ↦ All-nil IsRunCall
+    ]
+
+request_made : (v : ServerValue) (id limit : ℕ) (response : List ℕ) (m : Option Message)
+    → All IsRunCall (asking v id limit response m).events
+request_made v id limit response None = All-nil IsRunCall
+request_made v id limit response (Some m) = offered_made v id _
+
+later_made : {v w : ServerValue} {n : ℕ} {events : List AcceptedCall} {exchanges : List Exchange}
+    → AreGivenLater v n w events exchanges → All IsRunCall events
+later_made NothingGiven = All-nil IsRunCall
+later_made (OneMoreGiven n u events exchanges id bytes outcome so_far refused reply) =
+    All-append IsRunCall events (offered_events u id bytes) (later_made so_far) (offered_made u id bytes)
+
+-- ---- takes
+
+served_made : (v : ServerValue) (id : ℕ) (bytes : List ℕ) (responses : List (List ℕ))
+    → All IsRunCall (served v id bytes responses).events
+unfolding served
+served_made v id bytes [] = All-nil IsRunCall
+served_made v id bytes (response ∷ responses) =
+    All-append IsRunCall (served v id bytes responses).events _ (served_made v id bytes responses)
+    (All-cons IsRunCall (Took id _) _ tt (request_made _ id _ response _))
+
+taken_made : {v after : ServerValue} {h : History} → AreTakenWith v after h → All IsRunCall h.events
+taken_made {v} step = elim step.how [
+  | inl whole ↦ rw whole.1.reports (served_made v step.id step.bytes whole.1.responses)
+  | inr part ↦
+      rw part.reports (All-push IsRunCall (served v step.id step.bytes part.responses).events _
+      (served_made v step.id step.bytes part.responses) tt)
+]
+
+-- ---- steps
+
+all_made : {Step : ServerValue → ServerValue → History → Type 0}
+    → ((v after : ServerValue) (h : History) → Step v after h → All IsRunCall h.events)
+    → {v after : ServerValue} {h : History} → AreSteps Step v after h → All IsRunCall h.events
+all_made each NoStep = All-nil IsRunCall
+all_made each (OneMore w after h more so_far step) =
+    All-append IsRunCall h.events more.events (all_made each so_far) (each w after more step)
+
+visit_made : {v w : ServerValue} {h : History} → IsVisitStep v w h → All IsRunCall h.events
+visit_made (BytesTaken after h step) = taken_made step
+visit_made (InputEnded id) = only (Ended id) tt
+visit_made (BytesWritten id n) = only (Wrote id n) tt
+visit_made (ConnectionDropped id) = only (Dropped id) tt
+
+-- ---- a turn
+
+opening_made : (v : ServerValue) (opens : Bool) → All IsRunCall (opening v opens)
+opening_made v true = only (Opened (v.ids + 1)) tt
+opening_made v false = All-nil IsRunCall
+
+ticked_made : (v : ServerValue) (moment : ℕ) → All IsRunCall (ticked_calls v moment)
+ticked_made v moment =
+    elim (moment == v.shared.now) as (λ same. All IsRunCall (if same then [] else Ticked moment ∷ [])) [
+      | true ↦ All-nil IsRunCall
+      | false ↦ only (Ticked moment) tt
+    ]
+
+moved_made : (v : ServerValue) (moment : ℕ) → All IsRunCall (moved_calls v moment)
+moved_made v moment =
+    elim (nat_le v.shared.now moment) as (λ later. All IsRunCall (if later then ticked_calls v moment else [])) [
+      | true ↦ ticked_made v moment
+      | false ↦ All-nil IsRunCall
+    ]
+
+-- ---- a run
+
+step_made : {v w : ServerValue} {h : History} → IsRunStep v w h → All IsRunCall h.events
+step_made (SilentReleased id) = only (Released id) tt
+step_made (SilentDropped id) = only (Dropped id) tt
+step_made {v} (TimeSet moment) = moved_made v moment
+step_made (LaterGiven after h is_full requested) = rw requested.reports (later_made requested.given)
+step_made {v} (TurnMade after h turn) =
+    rw turn.all (All-append IsRunCall (opening v turn.opens) turn.visits.events (opening_made v turn.opens)
+    (all_made (λ v w h step. visit_made step) turn.steps))
+
+pub run_made : {v w : ServerValue} {h : History} → AreSteps IsRunStep v w h → All IsRunCall h.events
+run_made steps = all_made (λ v w h step. step_made step) steps

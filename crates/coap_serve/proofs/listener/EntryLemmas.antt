@@ -1,10 +1,22 @@
 -- The entries of a map whose keys are numbers, by their indices.
-use Rattle.std.proofs.Common.{◌≢◌, ℕ, ◌≡◌, zero, suc, ◌+◌, ◌<◌, List, [], ◌∷◌, ◌++◌, length, take, drop, Some, refl}
-use Rattle.std.proofs.Common.{sym, ap, ◌∙◌, inl, inr, arith, slice_get, remove, add-one}
+use Rattle.std.proofs.Common.{◌≢◌, ℕ, ◌≡◌, zero, suc, ◌+◌, ◌<◌, ◌≤◌, List, [], ◌∷◌, ◌++◌, length, take, drop, Some}
+use Rattle.std.proofs.Common.{refl, sym, ap, ◌∙◌, inl, inr, arith, slice_get, remove, add-one}
+use Rattle.std.proofs.lemmas.Bool.{cases_lt}
 use Rattle.std.proofs.lemmas.List.{append_cancel_left, length-take-le, take_at, take_more, drop_at, drop_more}
 use Rattle.std.proofs.lemmas.Option.{slice_get_cases, slice_get-map, slice_get_within, get_or_from_slice_get}
 use Rattle.coap_serve.specs.Prelude.{keys_of, set_value_at, values_of}
 use Rattle.coap_model.proofs.OptionLemmas.{one_made}
+
+-- A fact at an index holds at a later one if each step between them keeps it.
+pub carried_on : (P : ℕ → Type 0) (from to : ℕ) → from ≤ to → P from
+    → ((i : ℕ) → from ≤ i → i < to → P i → P (i + 1)) → P to
+carried_on P from zero order first step = let same : from ≡ 0 = omega arith in rw same at first
+carried_on P from (suc to) order first step = elim (cases_lt from (suc to)) [
+  | inl less ↦
+      rw (← add-one to) (step to (omega (arith, less)) (omega arith) (carried_on P from to (omega (arith, less)) first
+      (λ i after below. step i after (omega (arith, below)))))
+  | inr most ↦ let same : from ≡ suc to = omega (arith, order, most) in rw same at first
+]
 
 -- A value at an index is that of the entry at this index.
 pub value_at : {P : Type 0} (es : List (ℕ × P)) (i : ℕ) (p : P) → slice_get (values_of es) i ≡ Some p → (e : ℕ × P)

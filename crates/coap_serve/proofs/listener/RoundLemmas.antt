@@ -1,36 +1,33 @@
--- The connections that a turn opens, serves or skips, one after another.
-use Rattle.std.proofs.Common.{ℕ, ◌≡◌, zero, suc, ◌+◌, ◌-◌, ◌<◌, ◌≤◌, true, false, List, [], ◌∷◌, ◌++◌, length, take}
-use Rattle.std.proofs.Common.{drop, Some, None, IfSome, nat_eq, refl, sym, ap, ◌∙◌, arith, slice_get, remove}
-use Rattle.std.proofs.Common.{append_assoc}
+-- The connections that a turn serves or skips, one after another, the effect of a sweep, and the entry of a connection
+-- that was released.
+use Rattle.std.proofs.Common.{ℕ, ◌≡◌, ◌+◌, ◌-◌, ◌<◌, ◌≤◌, true, false, List, [], ◌∷◌, ◌++◌, length, take, drop, Some}
+use Rattle.std.proofs.Common.{IfSome, refl, sym, ◌∙◌, arith, slice_get, remove, append_assoc, ◌==◌, Option, None, ap}
+use Rattle.std.proofs.Common.{subst, zero, suc, nat_eq, if◌then◌else◌, map, position, get_or, option_map, inl, inr}
+use Rattle.std.proofs.Common.{is_some}
 use Rattle.std.proofs.lemmas.List.{append-nil, drop_all, take_all}
-use Rattle.std.proofs.lemmas.Option.{slice_get-map, slice_get_within}
-use Rattle.coap_serve.specs.Prelude.{AreServed, CanGoOn, Continues, HasAccepted, HasGoneOn, HasOneMore, History}
-use Rattle.coap_serve.specs.Prelude.{IsAccepted, IsVisited, Journal, LoopState, NoMore, Over, Peer, PeerOutcome}
-use Rattle.coap_serve.specs.Prelude.{ServerValue, Skipped, Visited, Way, history_left, history_then, insert_entry}
-use Rattle.coap_serve.specs.Prelude.{keys_of, loop_state, no_history, one_drop, open_refusal, server_dropped}
-use Rattle.coap_serve.specs.Prelude.{server_opened, set_value_at, status_of_peer, visit}
-use Rattle.coap_serve.specs.listener.Turns.{new_activity}
-use Rattle.coap_server_engine.specs.declared.monitor.DropReason.{DropReason}
+use Rattle.std.proofs.lemmas.Option.{slice_get-map, slice_get_within, slice_get_cases, get_or_from_slice_get}
+use Rattle.coap_serve.specs.Prelude.{AreServed, CanGoOn, Continues, HasAccepted, HasGoneOn, History, IsAccepted}
+use Rattle.coap_serve.specs.Prelude.{IsVisited, Journal, LoopState, NoMore, Over, Peer, PeerOutcome, ServerValue}
+use Rattle.coap_serve.specs.Prelude.{Skipped, Visited, Way, history_left, history_then, keys_of, loop_state, no_history}
+use Rattle.coap_serve.specs.Prelude.{one_drop, server_dropped, set_value_at, status_of_peer, visit, DropReason}
+use Rattle.coap_serve.specs.Prelude.{IsReasonFor, work_of, SilenceAction, Released, ArePaired, one_call}
+use Rattle.coap_serve.specs.Prelude.{server_released, released_refusal, status_of, released_at, unswept, silence_action}
+use Rattle.coap_serve.specs.Prelude.{acted, drop_one, due_sweep, Sweep, swept, swept_one, HasSwept, HasSweptAt}
+use Rattle.coap_serve.specs.Prelude.{ReleaseFault, IsDistinct, released_on}
 use Rattle.coap_serve.specs.declared.door.peer.PeerOutcome.TheVariants.{Open}
-use Rattle.coap_serve.proofs.listener.EntryLemmas.{back_removed, back_written, beside_written, front_kept, front_stays}
-use Rattle.coap_serve.proofs.listener.EntryLemmas.{front_written, next_first, set_there, some_at_index}
-use Rattle.coap_serve.proofs.listener.ServingLemmas.{accepted_then, then_none}
-
--- Another connection was opened.
-pub one_more_opened : {W : Type 0} {v after : ServerValue} {id : ℕ} (p : Peer W) {es now : List (ℕ × Peer W)}
-    → open_refusal v ≡ None → id ≡ v.ids + 1 → after ≡ server_opened v → now ≡ insert_entry nat_eq es id p → p.rest ≡ []
-    → {second : ℕ} → p.activity ≡ new_activity second → HasOneMore second p.wire (loop_state v es) (loop_state after
-    now)
-one_more_opened p may number opened entries rest times = record {
-  activity = times;
-  peer = p;
-  may = may;
-  server =
-      opened;
-  entries = rw (← number) entries;
-  rest = rest;
-  handed = refl;
-}
+use Rattle.coap_serve.proofs.listener.EntryLemmas.{back_removed, back_written, beside_written, carried_on, front_kept}
+use Rattle.coap_serve.proofs.listener.EntryLemmas.{front_stays, front_written, next_first, set_there, some_at_index}
+use Rattle.coap_serve.proofs.listener.EntryLemmas.{length_written}
+use Rattle.coap_serve.proofs.listener.ServingLemmas.{accepted_then, then_none, accepted_none}
+use Rattle.std.proofs.lemmas.Bool.Decides.{nat_tests}
+use Rattle.coap_server_engine.specs.declared.monitor.DropReason.TheVariants as drop
+use Rattle.coap_serve.specs.listener.Silence.{release_one}
+use Rattle.coap_serve.proofs.listener.SleepLemmas.{paired_written}
+use Rattle.std.proofs.lemmas.Bool.{eq-eqb, eqb-true}
+use Rattle.std.proofs.lemmas.Cmp.{nat_eq_equiv}
+use Rattle.std.proofs.lemmas.Map.{NonePasses, lookup-none}
+use Rattle.std.proofs.lemmas.Map.Entries.{none_past_head, lookup_from_place}
+use Rattle.std.proofs.lemmas.List.Quantifiers.{position-Some}
 
 module _ {W : Type 0} (S : Way W) where
   -- ---- one after the other
@@ -52,25 +49,15 @@ module _ {W : Type 0} (S : Way W) where
         rw (front_kept now.entries at e there, append_assoc (take at now.entries) (e ∷ []) w.entries) others;
   }
 
-  skipped_by : (n : ℕ) {start now : LoopState W} (at : ℕ) {h : History} → at + n ≤ length now.entries
-      → ((i : ℕ) → at ≤ i → i < at + n → IfSome (slice_get now.entries i) (λ e. CanGoOn (status_of_peer S now.server e)
-      false)) → AreServedTo start now at h → AreServedTo start now (at + n) h
-  skipped_by zero at within calm so_far = let none : at + 0 ≡ at = omega arith in rw none so_far
-  skipped_by (suc n) {now = now} at within calm so_far =
-      let there = some_at_index now.entries at (omega (arith, within)) in
-      let next : (at + 1) + n ≡ at + suc n = omega arith in
-      rw next at (skipped_by n (at + 1) (omega (arith, within)) (λ i after below. calm i (omega (arith, after))
-      (omega (arith, below)))
-      (one_skipped at there.1 (rw there.1 at (calm at (omega arith) (omega arith))) so_far))
-
   -- The connections up to another index were skipped.
   pub skipped_to : {start now : LoopState W} (at to : ℕ) {h : History} → at ≤ to → to ≤ length now.entries
       → ((i : ℕ) → at ≤ i → i < to → IfSome (slice_get now.entries i) (λ e. CanGoOn (status_of_peer S now.server e)
       false)) → AreServedTo start now at h → AreServedTo start now to h
-  skipped_to at to order within calm so_far =
-      let there : at + (to - at) ≡ to = omega (arith, order) in
-      rw there at (skipped_by (to - at) at (omega (arith, order, within)) (λ i after below. calm i after
-      (omega (arith, order, below))) so_far)
+  skipped_to {start = start} {now = now} at to {h = h} order within calm so_far =
+      carried_on (λ k. AreServedTo start now k h) at to order so_far
+      (λ i after below before.
+      (let there = some_at_index now.entries i (omega (arith, below, within)) in
+      one_skipped i there.1 (rw there.1 at (calm i after below)) before))
 
   pub one_served : {start s after : LoopState W} {i at : ℕ} {h k : History} → HasGoneOn S s i after at k → AreServedTo
       start s i h → AreServedTo start after at (history_then h k)
@@ -97,16 +84,15 @@ module _ {W : Type 0} (S : Way W) where
 
   -- ---- one connection
 
-  module _ (v between : ServerValue) (es : List (ℕ × Peer W)) (i : ℕ) {id : ℕ} {was : Peer W} (p : Peer W)
-      (there : slice_get es i ≡ Some (id, was))
-      (ready : IfSome (slice_get es i) (λ e. CanGoOn (status_of_peer S v e) true)) (a b : Journal)
-      (outcome : PeerOutcome)
-      (part : HasAccepted (λ h. IsVisited S v (id, was) (visit between p outcome h)) (Continues a b) v between) where
-    -- The history of the visit, and of what follows it.
-    left_then : {left : PeerOutcome} → outcome ≡ left → history_then part.history (history_left left id) ≡ history_then
-        part.history (history_left outcome id)
-    left_then is = ap (λ o. history_then part.history (history_left o id)) (sym is)
+  -- The history of the visit, and of what follows it.
+  left_then : {outcome left : PeerOutcome} (h : History) (id : ℕ) → outcome ≡ left
+      → history_then h (history_left left id) ≡ history_then h (history_left outcome id)
+  left_then h id is = rw is refl
 
+  module _ {v between : ServerValue} {es : List (ℕ × Peer W)} {i id : ℕ} {was p : Peer W} {a b : Journal}
+      {outcome : PeerOutcome} (there : slice_get es i ≡ Some (id, was))
+      (ready : IfSome (slice_get es i) (λ e. CanGoOn (status_of_peer S v e) true))
+      (part : HasAccepted (λ h. IsVisited S v (id, was) (visit between p outcome h)) (Continues a b) v between) where
     pub one_open : outcome ≡ Open → HasAccepted (HasGoneOn S (loop_state v es) i
         (loop_state between (set_value_at es i p)) (i + 1)) (Continues a b) v between
     one_open open_now = record {
@@ -121,7 +107,7 @@ module _ {W : Type 0} (S : Way W) where
           part = part.made;
           server = rw open_now refl;
           far_end = rw open_now refl;
-          all = sym (then_none) ∙ left_then open_now;
+          all = sym then_none ∙ left_then part.history id open_now;
         };
         front = front_written es i id was p there;
         back = back_written es i p;
@@ -129,12 +115,12 @@ module _ {W : Type 0} (S : Way W) where
       accepted = part.accepted;
     }
 
-    pub one_over : (c : Journal) {after : ServerValue} {now : List (ℕ × Peer W)} {reason : DropReason} → outcome ≡
-        Over reason → now ≡ remove (set_value_at es i p) i
+    pub one_over : {c : Journal} {after : ServerValue} {now : List (ℕ × Peer W)} {reason : DropReason}
+        → outcome ≡ Over reason → now ≡ remove (set_value_at es i p) i
         → IfSome (slice_get (keys_of (set_value_at es i p)) i) (λ id. after ≡ server_dropped between id)
         → IfSome (slice_get (keys_of (set_value_at es i p)) i) (λ id. IsAccepted (Continues b c) between after
         (one_drop id)) → HasAccepted (HasGoneOn S (loop_state v es) i (loop_state after now) i) (Continues a c) v after
-    one_over c {after = after} over removed dropped accepted =
+    one_over {c = c} {after = after} over removed dropped accepted =
         let now_there = set_there es i p id was there in
         let left : after ≡ server_dropped between id = rw (slice_get-map, now_there) at dropped in
         let last : IsAccepted (Continues b c) between after (one_drop id) =
@@ -151,10 +137,215 @@ module _ {W : Type 0} (S : Way W) where
               part = part.made;
               server = rw over left;
               far_end = rw over refl;
-              all = left_then over;
+              all = left_then part.history id over;
             };
             front = rw (removed, beside_written es i p, append-nil) (front_stays es i (slice_get_within es i _ there));
             back = rw (removed, beside_written es i p) (back_removed es i (slice_get_within es i _ there));
           };
           accepted = accepted_then part.accepted last;
         }
+
+-- ---- the effect of a sweep, connection by connection
+
+-- A value was recorded at the index.
+pub as_many_recorded : {X : Type 0} (f : ℕ × X → X) (es left : List (ℕ × X)) (i : ℕ) → i < length es
+    → IfSome (slice_get es i) (λ e. left ≡ set_value_at es i (f e)) → length left ≡ length es
+as_many_recorded f es left i within is =
+    let at = some_at_index es i within in
+    let is_so : left ≡ set_value_at es i (f at.0) = rw at.1 at is in
+    ap (λ (es : List _). length es) is_so ∙ length_written es i (f at.0)
+
+-- ---- one connection
+
+-- Any connection may be dropped as silent.
+pub silent_reason : {W : Type 0} (v : ServerValue) (es : List (ℕ × Peer W)) (i : ℕ) → IfSome (slice_get es i)
+    (λ e. IfSome (work_of v e.0) (IsReasonFor drop.Silent))
+silent_reason v es i = grind arith
+
+pub dropped_here : {W : Type 0} (Known : History → Type 0) (v after : ServerValue) (es left : List (ℕ × Peer W)) (i : ℕ)
+    → i < length es → IfSome (slice_get (keys_of es) i) (λ id. after ≡ server_dropped v id) → left ≡ remove es i
+    → IfSome (slice_get (keys_of es) i) (λ id. IsAccepted Known v after (one_drop id)) → IfSome (slice_get es i)
+    (λ e. HasSweptAt Known (drop_one v e) (loop_state v es) i (loop_state after left) i)
+dropped_here Known v after es left i within dropped is accepted =
+    let at = some_at_index es i within in
+    rw at.1 (record {
+      has = record { server = rw (slice_get-map, at.1) at dropped; accepted = rw (slice_get-map, at.1) at accepted };
+      front = rw (is, append-nil) (front_stays es i within);
+      back = rw is (back_removed es i within);
+    })
+
+pub released_here : {W : Type 0} {Known : History → Type 0} (now : ℕ) {v after : ServerValue}
+    {es left : List (ℕ × Peer W)} (i : ℕ) {e : ℕ × Peer W} → slice_get es i ≡ Some e → after ≡ server_released v e.0
+    → left ≡ set_value_at es i (released_at now e.1) → IsAccepted Known v after (one_call (Released e.0))
+    → HasSweptAt Known (release_one now v e) (loop_state v es) i (loop_state after left) (i + 1)
+released_here now {es = es} i {e = e} there released is accepted = record {
+  has = record { server = released; accepted = accepted };
+  front = rw is (front_written es i e.0 e.1 (released_at now e.1) there);
+  back = rw is (back_written es i (released_at now e.1));
+}
+
+-- The connection stays.
+pub kept_here : {W : Type 0} {a : Journal} {s : LoopState W} {i : ℕ} {e : ℕ × Peer W} → slice_get s.entries i ≡ Some e
+    → HasSweptAt (Continues a a) (unswept s.server (e ∷ [])) s i s (i + 1)
+kept_here {a = a} {s = s} {i = i} {e = e} there = record {
+  has = record { server = refl; accepted = accepted_none a s.server s.server refl };
+  front = front_kept s.entries i e there;
+  back = refl;
+}
+
+-- The action is that of the rule, and `release` has this result.
+pub acted_here : {W : Type 0} {Known : History → Type 0} (idle now : ℕ) {s after : LoopState W} {i next : ℕ}
+    {e : ℕ × Peer W} (action : SilenceAction) {refusal : Option ReleaseFault}
+    → slice_get s.entries i ≡ Some e → action ≡ silence_action idle now (status_of s.server e.0) e.1.activity
+    → refusal ≡ released_refusal s.server e.0 → HasSweptAt Known (acted action refusal now s.server e) s i after next
+    → IfSome (slice_get s.entries i) (λ e. HasSweptAt Known (swept_one idle now s.server e) s i after next)
+acted_here idle now action at is refused part = rw (at, ← is, ← refused) part
+
+-- ---- pairs
+
+pub paired_released : {W : Type 0} (now : ℕ) {v after : ServerValue} (i : ℕ) {es left : List (ℕ × Peer W)}
+    → keys_of after.sessions ≡ keys_of v.sessions → i < length es → IfSome (slice_get es i) (λ e. left ≡ set_value_at es
+    i (released_at now e.1)) → ArePaired v es → ArePaired after left
+paired_released now i {es = es} keys within is paired = let at = some_at_index es i within in paired_written paired i
+    (released_at now at.0.1) keys (rw at.1 at is)
+
+-- ---- all connections
+
+-- The part of a sweep with the effect `s` that was made: `front` are the entries that were visited, and `rest` those
+-- still to visit.
+pub record IsSweptTo {W : Type 0} (Known : History → Type 0) (s : Sweep W) (idle now : ℕ) (u v : ServerValue)
+    (front rest : List (ℕ × Peer W)) : Type 0 where
+  pub history : History
+  pub accepted : IsAccepted Known u v history
+  pub server : (swept idle now v rest).server ≡ s.server
+  pub entries : front ++ (swept idle now v rest).entries ≡ s.entries
+  pub made : history_then history (swept idle now v rest).history ≡ s.history
+
+pub none_swept : {W : Type 0} (a : Journal) {idle now : ℕ} {v : ServerValue} (es : List (ℕ × Peer W))
+    → IsSweptTo (Continues a a) (swept idle now v es) idle now v v (take 0 es) (drop 0 es)
+none_swept a {v = v} es = record {
+  history = no_history;
+  accepted = accepted_none a v v refl;
+  server = refl;
+  entries = refl;
+  made = refl;
+}
+
+pub one_more_swept : {W : Type 0} {a b c : Journal} {s : Sweep W} (idle now : ℕ) {u v w : ServerValue} (es left : List
+    (ℕ × Peer W)) (i at : ℕ) → i < length es
+    → IsSweptTo (Continues a b) s idle now u v (take i es) (drop i es) → IfSome (slice_get es i) (λ e. HasSweptAt
+    (Continues b c) (swept_one idle now v e) (loop_state v es) i (loop_state w left) at)
+    → IsSweptTo (Continues a c) s idle now u w (take at left) (drop at left)
+unfolding swept
+one_more_swept {b = b} {c = c} idle now {v = v} {w = w} es left i at within so_far part =
+    let there = some_at_index es i within in
+    let one : HasSweptAt (Continues b c) (swept_one idle now v there.0) (loop_state v es) i (loop_state w left) at = rw
+    there.1 at part in
+    let before = rw (next_first es i there.1) at so_far in
+    rw (one.front, one.back, one.has.server) (record {
+      history = history_then before.history (swept_one idle now v there.0).history;
+      accepted = accepted_then before.accepted (rw one.has.server at one.has.accepted);
+      server = before.server;
+      entries = rw append_assoc before.entries;
+      made = rw (append_assoc, append_assoc) before.made;
+    })
+
+pub all_swept : {W : Type 0} {Known : History → Type 0} {s : Sweep W} {idle now : ℕ} {u v : ServerValue}
+    (es : List (ℕ × Peer W)) (i : ℕ) → length es ≤ i → IsSweptTo Known s idle now u v (take i es) (drop i es)
+    → HasSwept Known s u v × (es ≡ s.entries)
+unfolding swept
+all_swept {Known = Known} {s = s} {u = u} {v = v} es i most so_far =
+    let done = rw (drop_all i es most, take_all i es most) at so_far in
+    let same : done.history ≡ s.history = sym (then_none) ∙ done.made in (
+      record { server = done.server; accepted = subst (IsAccepted Known u v) same done.accepted },
+      rw append-nil at
+          done.entries,
+    )
+
+-- ---- no sweep
+
+pub unswept_made : {W : Type 0} (a : Journal) {v : ServerValue} (es : List (ℕ × Peer W)) → HasSwept (Continues a a)
+    (unswept v es) v v
+unswept_made a {v = v} es = record { server = refl; accepted = accepted_none a v v refl }
+
+-- The sweep of this second was made.
+pub made_before : {W : Type 0} (a : Journal) (idle : Option ℕ) {last second : ℕ} {v : ServerValue}
+    (es : List (ℕ × Peer W)) → second ≡ last → HasSwept (Continues a a) (due_sweep idle last second v es) v v
+made_before a None {v = v} es same = unswept_made a es
+made_before a (Some idle) {last = last} {second = second} {v = v} es same =
+    let is : (second == last) ≡ true = grind (arith, nat_tests) in
+    rw is (unswept_made a es)
+
+-- ---- the entry of a connection that was released
+
+-- The entry at the place of a number has that number.
+pub number_at : {X : Type 0} (id : ℕ) (es : List (ℕ × X)) (i k : ℕ) (x : X) → Some i ≡ position (nat_eq id) (keys_of es)
+    → slice_get es i ≡ Some (k, x) → k ≡ id
+number_at {X} id es i k x there at =
+    let passes = (position-Some (nat_eq id) (keys_of es) i k (sym there)).1 in
+    let key : get_or (keys_of es) i k ≡ k = get_or_from_slice_get (keys_of es) i k k (slice_get-map (λ (e : ℕ × X). e.0)
+    es i ∙ ap (λ (o : Option (ℕ × X)). option_map (λ e. e.0) o) at) in
+    sym (eqb-true id k (rw key at passes))
+
+-- ---- one entry that is recorded anew
+
+-- A place that was not found has no entry.
+pub none_found : {A B : Type 0} (r : Option A) (o : Option B) → is_some r ≡ is_some o → r ≡ None → o ≡ None
+none_found r o found is = grind arith
+
+-- `f` makes the new value of an entry.
+module _ {W : Type 0} (f : ℕ × Peer W → Peer W) where
+  -- The entries with a new value for this number.
+  abbrev changed_on : ℕ → List (ℕ × Peer W) → List (ℕ × Peer W)
+  changed_on id es = map (λ e. if nat_eq id e.0 then (e.0, f e) else e) es
+
+  changed_nowhere : (id : ℕ) (es : List (ℕ × Peer W)) → NonePasses (nat_eq id) es → changed_on id es ≡ es
+  changed_nowhere id [] none = refl
+  changed_nowhere id (e ∷ es) none = rw (none.0, changed_nowhere id es none.1) refl
+
+  -- No connection has the number.
+  pub changed_without : (id : ℕ) {es : List (ℕ × Peer W)} → NonePasses (nat_eq id) es → es ≡ changed_on id es
+  changed_without id {es = es} none = sym (changed_nowhere id es none)
+
+  -- The value is recorded at the index of the number.
+  pub changed_there : (id : ℕ) (es : List (ℕ × Peer W)) (i : ℕ) (p : Peer W) → IsDistinct nat_eq (keys_of es)
+      → slice_get es i ≡ Some (id, p) → set_value_at es i (f (id, p)) ≡ changed_on id es
+  unfolding IsDistinct
+  changed_there id [] i p distinct at = absurd cc
+  changed_there id (e ∷ es) zero p distinct at =
+      let same : e ≡ (id, p) = cc in
+      let is : nat_eq id e.0 ≡ true = eq-eqb id e.0 (sym (ap (λ e. e.0) same)) in
+      rw (is, changed_nowhere id es (none_past_head nat_eq_equiv id e es distinct is)) (ap (λ e'. (e.0, f e') ∷ es)
+      (sym same))
+  changed_there id (e ∷ es) (suc i) p distinct at =
+      let there = lookup_from_place nat_eq_equiv es i id p distinct.1 at in
+      elim (nat_eq id e.0) as (λ b. nat_eq id e.0 ≡ b → e ∷ set_value_at es i (f (id, p)) ≡ (if b then (e.0, f e) else
+      e) ∷ changed_on id es) [
+        | true ↦ λ is. let none = lookup-none (nat_eq id) es (none_past_head nat_eq_equiv id e es distinct is) in
+            absurd (cc (there, none))
+        | false ↦ λ is. ap (λ es. e ∷ es) (changed_there id es i p distinct.1 at)
+      ] refl
+
+  -- The same for a place that was looked up.
+  pub changed_found : (id : ℕ) (es : List (ℕ × Peer W)) {now : List (ℕ × Peer W)} {i : ℕ} → IsDistinct nat_eq
+      (keys_of es) → Some i ≡ position (nat_eq id) (keys_of es) → i < length es
+      → IfSome (slice_get es i) (λ e. now ≡ set_value_at es i (f e)) → now ≡ changed_on id es
+  changed_found id es {now = now} {i = i} distinct there within set = elim (slice_get_cases es i).1 as (λ _. now ≡
+      changed_on id es) [
+        | inl h ↦ let e : ℕ × Peer W = h.0 in
+            let same : e.0 ≡ id = number_at id es i e.0 e.1 there h.2 in
+            rw h.2 at set ∙
+            rw (← same) (changed_there e.0 es i e.1 distinct h.2)
+        | inr h ↦ absurd (omega (arith, within, h.0))
+      ]
+
+-- The numbers stay where a connection was released.
+pub paired_released_on : {W : Type 0} (now id : ℕ) {v after : ServerValue} {es left : List (ℕ × Peer W)}
+    → keys_of after.sessions ≡ keys_of v.sessions → left ≡ released_on now id es → ArePaired v es → ArePaired after left
+paired_released_on now id {es = es} keys is paired =
+    let same = ap keys_of is ∙ same_keys now id es in
+    record { keys = same ∙ paired.keys ∙ sym keys; distinct = rw same paired.distinct }
+  where
+    same_keys : {W : Type 0} (now id : ℕ) (es : List (ℕ × Peer W)) → keys_of (released_on now id es) ≡ keys_of es
+    same_keys now id [] = refl
+    same_keys now id (e ∷ es) = grind (arith, same_keys now id es)

@@ -1,30 +1,28 @@
 -- The parts of a run, one after another.
 use Rattle.std.proofs.Common.{ℕ, ◌≡◌, ◌==◌, Bool, true, false, length, is_none, List, [], ◌∷◌, Option, Some, None}
-use Rattle.std.proofs.Common.{Result, Ok, Err, OnOk, OnErr, refl, sym, ap, ◌∙◌, arith, inl, inr, le-leb, is_ok}
+use Rattle.std.proofs.Common.{Result, Ok, Err, OnOk, OnErr, refl, sym, ap, arith, inl, inr, le-leb, is_ok}
 use Rattle.std.proofs.Common.{if◌then◌else◌}
 use Rattle.std.specs.Prelude.{nat_le}
 use Rattle.std.proofs.lemmas.List.{append-nil, map-append}
 use Rattle.std.proofs.lemmas.Bool.Decides.{nat_tests}
 use Rattle.coap_io.proofs.streams.DeviceLemmas.{no_calls, calls_then}
-use Rattle.coap_server_engine.specs.Prelude.{ReleaseFault}
 use Rattle.coap_model.specs.declared.config.Config.{Config}
-use Rattle.coap_server_engine.specs.declared.io_fault.IoFault.TheVariants.{Read, Write, Turns}
 use Rattle.coap_server_engine.proofs.values.ServerLemmas.{all_settled_stay}
 use Rattle.coap_server_engine.proofs.scripting.ShownLemmas.{shows_same}
 use Rattle.coap_server_engine.proofs.scripting.FollowLemmas.{followed_none, followed_then}
-use Rattle.coap_serve.specs.Prelude.{Answering, AnswersMore, AreRequestedLater, AreCallsBetween, AreSteps, Continues}
-use Rattle.coap_serve.specs.Prelude.{Following, FollowsMore, HasTurned, History, Journal, calls_only, history_then}
-use Rattle.coap_serve.specs.Prelude.{journal, opening_then, AreSettled, DoorCall, IoFault, IsMemory, IsMemoryOrTurns}
-use Rattle.coap_serve.specs.Prelude.{Memory, Peer, ServerValue, SessionValue, ShowsMore, AddsCalls, Views, Wait}
-use Rattle.coap_serve.specs.Prelude.{door_calls, open_refusal, server_ticked, EndsRun, Environment, HasRun, HasSwept}
-use Rattle.coap_serve.specs.Prelude.{IsBegun, IsCutRun, IsCutTurn, IsRun, IsRunStep, IsTurnFor, KnownOfRun, KnownOfTurn}
-use Rattle.coap_serve.specs.Prelude.{Matches, RunTrace, ServiceConfig, ServiceValue, Sweep, Times, acted, due_sweep}
-use Rattle.coap_serve.specs.Prelude.{environment, exactly, known_of_run, moved_calls, moved_to, no_trace, plain_config}
+use Rattle.coap_serve.specs.Prelude.{AcceptedCall, Exchange, IsTurnBy, LoopState, Way, Answering, AnswersMore}
+use Rattle.coap_serve.specs.Prelude.{AreRequestedLater, AreCallsBetween, AreSteps, Continues, Following, FollowsMore}
+use Rattle.coap_serve.specs.Prelude.{HasTurned, History, Journal, calls_only, history_then, journal, opening_then}
+use Rattle.coap_serve.specs.Prelude.{AreSettled, DoorCall, IoFault, IsMemory, IsMemoryOrTurns, Memory, Peer}
+use Rattle.coap_serve.specs.Prelude.{ServerValue, SessionValue, ShowsMore, AddsCalls, Views, Wait, door_calls}
+use Rattle.coap_serve.specs.Prelude.{open_refusal, server_ticked, EndsRun, Environment, HasRun, HasSwept, IsBegun}
+use Rattle.coap_serve.specs.Prelude.{IsCutRun, IsCutTurn, IsRun, IsRunStep, IsTurnFor, KnownOfRun, KnownOfTurn, Matches}
+use Rattle.coap_serve.specs.Prelude.{RunTrace, ServiceConfig, ServiceValue, Sweep, Times, acted, due_sweep, environment}
+use Rattle.coap_serve.specs.Prelude.{exactly, known_of_run, moved_calls, moved_to, no_trace, plain_config}
 use Rattle.coap_serve.specs.Prelude.{released_refusal, silence_action, some_waits, status_of, swept, swept_one}
-use Rattle.coap_serve.specs.Prelude.{ticked_calls, trace_then, turn_trace, unswept, waited_after}
-use Rattle.coap_serve.specs.listener.Histories.{NoStep}
-use Rattle.coap_serve.specs.listener.Run.{SilentReleased, SilentDropped, TimeSet, LaterGiven, TurnMade}
-use Rattle.coap_serve.specs.declared.door.silence.SilenceAction.{SilenceAction}
+use Rattle.coap_serve.specs.Prelude.{ticked_calls, trace_then, turn_trace, unswept, waited_after, ReleaseFault, Read}
+use Rattle.coap_serve.specs.Prelude.{Write, Turns, NoStep, SilentReleased, SilentDropped, TimeSet, LaterGiven, TurnMade}
+use Rattle.coap_serve.specs.Prelude.{SilenceAction}
 use Rattle.coap_serve.specs.declared.door.silence.SilenceAction.TheVariants.{Keep, Release, Drop}
 use Rattle.coap_serve.proofs.listener.ServingLemmas.{answered_none, calls_made, continued_none, continued_then}
 use Rattle.coap_serve.proofs.listener.ServingLemmas.{one_step, steps_then}
@@ -34,11 +32,9 @@ use Rattle.coap_serve.proofs.listener.ServingLemmas.{one_step, steps_then}
 -- The server has this time already.
 pub same_time : {v : ServerValue} {now : ℕ} → AreSettled v.shared v.sessions → now ≡ v.shared.now → v ≡ moved_to v now
 same_time {v = v} settled is =
-    let same : v ≡ server_ticked v v.shared.now = sym
-    (ap (λ (es : List (ℕ × SessionValue)). record v {
-      sessions =
-          es;
-    }) (all_settled_stay v.shared v.sessions settled)) in
+    let same : v ≡ server_ticked v v.shared.now =
+    sym (ap (λ (es : List (ℕ × SessionValue)). record v { sessions = es }) (all_settled_stay v.shared v.sessions
+    settled)) in
     rw (is, le-leb v.shared.now v.shared.now (omega arith)) same
 
 pub none_ticked : (v : ServerValue) {now : ℕ} → now ≡ v.shared.now → ticked_calls v now ≡ []
@@ -97,23 +93,29 @@ sweep_ran idle last second {v = v} es swept = record {
   accepted = swept.accepted;
 }
 
+-- The same later responses, whose history is known.
+requested_so : {v after : ServerValue} {most : ℕ} {is_full : Bool} {monitor : List AcceptedCall → Type 0}
+    {asks told : List Exchange → Type 0} (given : AreRequestedLater v most is_full after monitor asks)
+    → told given.exchanges → AreRequestedLater v most is_full after (λ all. given.events ≡ all) told
+requested_so given exchanged = record {
+  number = given.number;
+  events = given.events;
+  exchanges = given.exchanges;
+  given = given.given;
+  within = given.within;
+  over = given.over;
+  shows = given.shows;
+  reports = refl;
+  exchanged = exchanged;
+}
+
 -- Later responses were given.
 pub later_ran : (a b : Following) (p q : Answering) {v w : ServerValue} {is_full : Bool}
     → AreRequestedLater v 256 is_full w (FollowsMore a b) (AnswersMore p q)
     → HasRun (Continues (journal a p) (journal b q)) v w
 later_ran a b p q {w = w} {is_full = is_full} given = record {
   history = record { events = given.events; exchanges = given.exchanges };
-  made = one_step (LaterGiven w _ is_full (record {
-    number = given.number;
-    events = given.events;
-    exchanges = given.exchanges;
-    given = given.given;
-    within = given.within;
-    over = given.over;
-    shows = given.shows;
-    reports = refl;
-    exchanged = refl;
-  }));
+  made = one_step (LaterGiven w _ is_full (requested_so given refl));
   accepted = record { shows = given.shows; known = record { calls = given.reports; exchanged = given.exchanged } };
 }
 
@@ -148,28 +150,20 @@ pub nothing_matches : {W : Type 0} (c u : Option (List ℕ)) (d : Option (List (
 nothing_matches c u d a = (no_calls c, no_calls u, no_calls d, continued_none a)
 
 -- One more turn.
-module _ {C U D W : Type 0} (moments : C → Option (List ℕ)) (c0 c1 c2 : C) (seconds : U → Option (List ℕ))
-    (u0 u1 u2 : U) (calls : D → Option (List (DoorCall W))) (d0 d1 d2 d3 : D) where
-  pub turn_matches : {a b c : Journal} (t : RunTrace W) {turns : ℕ} (wait : Wait) (s : ServiceValue W) (times : Times)
-      (requested : List (DoorCall W)) (h : History) {opens : Bool}
-      → Matches (known_of_run (AddsCalls (moments c0) (moments c1)) (AddsCalls (seconds u0) (seconds u1))
-      (AddsCalls (calls d0) (calls d1)) (Continues a b)) t → length t.times ≡ turns
-      → opens ≡ is_none (open_refusal s.state.server)
-      → AddsCalls (moments c1) (moments c2) (times.now ∷ []) → AddsCalls (seconds u1) (seconds u2) (times.second ∷ [])
-      → AddsCalls (calls d1) (calls d2) (waited_after turns wait opens)
-      → AddsCalls (calls d2) (calls d3) requested → Continues b c h
-      → Matches (known_of_run (AddsCalls (moments c0) (moments c2)) (AddsCalls (seconds u0) (seconds u2))
-      (AddsCalls (calls d0) (calls d3)) (Continues a c))
-      (trace_then t (turn_trace (length t.times) wait s times requested h))
-  turn_matches t wait s times requested h so_far counted is clock uptime waited door known = (
-    rw (map-append (λ (x : Times). x.now) t.times (times ∷ []))
-        (calls_then (moments c0) (moments c1) (moments c2) _ _ so_far.0 clock),
-    rw (map-append (λ (x : Times). x.second) t.times (times ∷ []))
-        (calls_then (seconds u0) (seconds u1) (seconds u2) _ _ so_far.1 uptime),
-    calls_then (calls d0) (calls d1) (calls d3) t.calls _ so_far.2
-        (calls_then (calls d1) (calls d2) (calls d3) _ requested (rw (← counted, is) at waited) door),
-    continued_then t.history h so_far.3 known,
-  )
+pub turn_matches : {W : Type 0} (c0 c1 c2 u0 u1 u2 : Option (List ℕ)) (d0 d1 d2 d3 : Option (List (DoorCall W)))
+    {a b c : Journal} (t : RunTrace W) {turns : ℕ} (wait : Wait) (s : ServiceValue W) (times : Times)
+    (calls : List (DoorCall W)) (h : History) {opens : Bool}
+    → Matches (known_of_run (AddsCalls c0 c1) (AddsCalls u0 u1) (AddsCalls d0 d1) (Continues a b)) t
+    → length t.times ≡ turns → opens ≡ is_none (open_refusal s.state.server) → AddsCalls c1 c2 (times.now ∷ [])
+    → AddsCalls u1 u2 (times.second ∷ []) → AddsCalls d1 d2 (waited_after turns wait opens) → AddsCalls d2 d3 calls
+    → Continues b c h → Matches (known_of_run (AddsCalls c0 c2) (AddsCalls u0 u2) (AddsCalls d0 d3) (Continues a c))
+    (trace_then t (turn_trace (length t.times) wait s times calls h))
+turn_matches c0 c1 c2 u0 u1 u2 d0 d1 d2 d3 t wait s times calls h so_far counted is clock uptime waited door known = (
+  rw (map-append (λ (x : Times). x.now) t.times (times ∷ [])) (calls_then c0 c1 c2 _ _ so_far.0 clock),
+  rw (map-append (λ (x : Times). x.second) t.times (times ∷ [])) (calls_then u0 u1 u2 _ _ so_far.1 uptime),
+  calls_then d0 d1 d3 t.calls _ so_far.2 (calls_then d1 d2 d3 _ calls (rw (← counted, is) at waited) door),
+  continued_then t.history h so_far.3 known,
+)
 
 -- ---- the parts of a turn before its visits
 
@@ -181,14 +175,16 @@ pub record HasBegun {A W : Type 0} (follows : A → Answering) (rests : A → Ty
   pub known : Known history
 
 pub parts_begin : {A W : Type 0} {follows : A → Answering} {rests : A → Type 0} {times : Times} {s : ServiceValue W}
-    (m0 m1 m2 m3 : Following) (x : Answering) (one other : A) {v1 v2 v3 : ServerValue} {is_full : Bool}
+    {m0 m1 : Following} (m2 : Following) {m3 : Following} {x : Answering} (one other : A) {v1 v2 v3 : ServerValue}
+    {is_full : Bool}
     → HasSwept (Continues (journal m0 x) (journal m1 (follows one)))
     (due_sweep s.idle s.second times.second s.state.server s.state.entries) s.state.server v1
     → v2 ≡ moved_to v1 times.now → FollowsMore m1 m2 (moved_calls v1 times.now)
     → AreRequestedLater v2 256 is_full v3 (FollowsMore m2 m3) (AnswersMore (follows one) (follows other))
     → (is_full ≡ false → rests other)
     → HasBegun follows rests times s (Continues (journal m0 x) (journal m3 (follows other))) v3 is_full
-parts_begin {follows = follows} {times = times} {s = s} m0 m1 m2 m3 x one other swept moved received given idle =
+parts_begin {follows = follows} {times = times} {s = s} {m1 = m1} m2 {m3 = m3} one other swept moved
+    received given idle =
     let sweep = due_sweep s.idle s.second times.second s.state.server s.state.entries in
     let ticked : Continues (journal m1 (follows one)) (journal m2 (follows one))
     (calls_only (moved_calls sweep.server times.now)) =
@@ -202,23 +198,27 @@ parts_begin {follows = follows} {times = times} {s = s} m0 m1 m2 m3 x one other 
         sweep = sweep;
         is_swept = refl;
         later = later;
-        given = rw (← swept.server, ← moved) (record {
-          number = given.number;
-          events = given.events;
-          exchanges = given.exchanges;
-          given = given.given;
-          within = given.within;
-          over = given.over;
-          shows = given.shows;
-          reports = refl;
-          exchanged = (refl, one, other, idle, given.exchanged);
-        });
+        given = rw (← swept.server, ← moved) (requested_so given (refl, one, other, idle, given.exchanged));
         all = refl;
       };
       known = continued_then sweep.history _ swept.accepted.known (continued_then _ later ticked answers);
     }
 
 -- ---- whole turns
+
+-- The same turn, of which something else is known.
+pub turn_known : {W : Type 0} {S : Way W} {K L : KnownOfTurn W} {s after : LoopState W} {wait : Wait}
+    (t : IsTurnBy S K s after wait) → L.door (door_calls s.server t.opened.handed)
+    → L.history (opening_then s.server t.opens t.visits) → IsTurnBy S L s after wait
+turn_known t door history = record {
+  opens = t.opens;
+  between = t.between;
+  opened = record { handed = t.opened.handed; requested = door; opened = t.opened.opened; is = t.opened.is };
+  visits = t.visits;
+  served = t.served;
+  waits = t.waits;
+  accepted = record { shows = t.accepted.shows; known = history };
+}
 
 -- A turn whose calls of the listener and whose history are named.
 pub turn_named : {A W : Type 0} (follows : A → Answering) (rests : A → Type 0) (waits : A → ℕ → Wait → Type 0)
@@ -238,15 +238,7 @@ turn_named follows rests waits views one turn =
         limit = turn.limit;
         allowed = (one, turn.allowed);
         next = turn.next;
-        turn = record {
-          opens = t.opens;
-          between = t.between;
-          opened = record { handed = t.opened.handed; requested = refl; opened = t.opened.opened; is = t.opened.is };
-          visits = t.visits;
-          served = t.served;
-          waits = t.waits;
-          accepted = record { shows = t.accepted.shows; known = refl };
-        };
+        turn = turn_known t refl refl;
         waits = turn.waits;
         second = turn.second;
         idle = turn.idle;
@@ -292,10 +284,7 @@ memory_ends T fault is = absurd is
 -- The configuration without an application and without a limit of silence.
 pub is_plain : {c : ServiceConfig} (config : Config) → (c.config ≡ config) × (c.applications ≡ None) × (c.idle ≡ None)
     → c ≡ plain_config config
-is_plain {c = c} config is =
-    ap (λ x. record { config = x; applications = c.applications; idle = c.idle }) is.0
-    ∙ ap (λ x. record { config = config; applications = x; idle = c.idle }) is.1
-    ∙ ap (λ x. record { config = config; applications = None; idle = x }) is.2
+is_plain config is = grind arith
 
 module _ {A W : Type 0} (E : Environment A W) (c : ServiceConfig) (s t : KnownOfRun W)
     (clock : (l : List ℕ) → s.clock l → t.clock l) (uptime : (l : List ℕ) → s.uptime l → t.uptime l)

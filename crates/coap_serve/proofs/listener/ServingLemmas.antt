@@ -1,26 +1,22 @@
 -- The histories of the parts of a turn.
 use Rattle.std.proofs.Common.{ℕ, is_some, ◌≡◌, ◌≢◌, ◌+◌, ◌<◌, ◌||◌, not, nat_lt, true, false, List, [], ◌∷◌, ◌++◌}
 use Rattle.std.proofs.Common.{length, take, drop, Option, Some, None, IfSome, append_assoc, arith, option_map, refl}
-use Rattle.std.proofs.Common.{sym, ap, ◌∙◌, inl, inr}
+use Rattle.std.proofs.Common.{◌∙◌, inl, inr, ◌≤◌, ◌==◌, Bool, add-one}
 use Rattle.std.proofs.lemmas.Bool.{and_parts, ltb-true}
 use Rattle.std.proofs.lemmas.Bool.Decides.{nat_tests}
 use Rattle.std.proofs.lemmas.List.{append-nil, length-drop, length-take}
 use Rattle.std.proofs.Math.Bool.{or_assoc}
-use Rattle.coap_server_engine.specs.Prelude.{Reason, handed_by}
 use Rattle.coap_serve.specs.Prelude.{ShowsMore, FollowsMore, Following, opening, ServerValue, count_taken, server_taken}
 use Rattle.coap_serve.specs.Prelude.{ConnectionWork, IsReasonFor, SessionValue, session_work, AcceptedCall, Opened}
 use Rattle.coap_serve.specs.Prelude.{Took, Dropped, server_dropped, server_opened, Answering, AnswersMore, Exchange}
 use Rattle.coap_serve.specs.Prelude.{Gone, HasServed, HasTurned, HasOpened, AreSteps, IsTakenWith, opening_then}
 use Rattle.coap_serve.specs.Prelude.{AreCallsBetween, Continues, HasAccepted, History, IsAccepted, Journal, calls_only}
 use Rattle.coap_serve.specs.Prelude.{history_then, journal, no_history, one_drop, Got, Bytes, End, read_events}
-use Rattle.coap_serve.specs.Prelude.{is_there, server_read, server_wrote, wrote_events}
-use Rattle.coap_serve.specs.listener.Histories.{NoStep, OneMore}
-use Rattle.coap_serve.specs.listener.Turns.{IsTakenInPart, have_moved, kept_unless, moves, kept_rest}
-use Rattle.coap_serve.specs.listener.Serving.{BytesTaken, BytesWritten, ConnectionDropped, InputEnded}
-use Rattle.coap_server_engine.specs.Prelude.{Message}
-use Rattle.coap_server_engine.specs.declared.monitor.DropReason.{DropReason}
-use Rattle.coap_server_engine.specs.values.ApplicationCalls.{AreMade, ask_result, asking, message_limit, offered_events}
-use Rattle.coap_server_engine.specs.values.ApplicationCalls.{response_for, served, IsPartlyServed}
+use Rattle.coap_serve.specs.Prelude.{is_there, server_read, server_wrote, wrote_events, Reason, handed_by, NoStep}
+use Rattle.coap_serve.specs.Prelude.{OneMore, IsTakenInPart, have_moved, kept_unless, moves, kept_rest, BytesTaken}
+use Rattle.coap_serve.specs.Prelude.{BytesWritten, ConnectionDropped, InputEnded, Message, DropReason, AreMade}
+use Rattle.coap_serve.specs.Prelude.{ask_result, asking, message_limit, offered_events, served, IsPartlyServed}
+use Rattle.coap_serve.specs.Prelude.{AreRequestedLater, IsRequestedLater, AreGivenLater, NothingGiven, OneMoreGiven}
 use Rattle.coap_server_engine.specs.values.ApplicationCalls.{IsServed as IsServedWith}
 use Rattle.coap_server_engine.proofs.scripting.ShownLemmas.{shows_same, shows_then}
 use Rattle.coap_server_engine.proofs.scripting.FollowLemmas.{followed_none, followed_then}
@@ -71,40 +67,35 @@ calls_accepted p made =
 
 -- ---- steps one after the other
 
-pub steps_then : {Step : ServerValue → ServerValue → History → Type 0} {u v w : ServerValue} {h k : History}
-    → AreSteps Step u v h → AreSteps Step v w k → AreSteps Step u w (history_then h k)
-steps_then {h = h} one NoStep = rw (append-nil, append-nil) one
-steps_then {h = h} one (OneMore w after g more so_far step) =
-    rw (← append_assoc h.events g.events more.events, ← append_assoc h.exchanges g.exchanges more.exchanges)
-    (OneMore w after (history_then h g) more (steps_then one so_far) step)
+module _ {Step : ServerValue → ServerValue → History → Type 0} where
+  pub steps_then : {u v w : ServerValue} {h k : History} → AreSteps Step u v h → AreSteps Step v w k
+      → AreSteps Step u w (history_then h k)
+  steps_then one NoStep = rw then_none one
+  steps_then {h = h} one (OneMore w after g more so_far step) =
+      rw (← append_assoc h.events g.events more.events, ← append_assoc h.exchanges g.exchanges more.exchanges)
+      (OneMore w after (history_then h g) more (steps_then one so_far) step)
 
-pub one_step : {Step : ServerValue → ServerValue → History → Type 0} {v after : ServerValue} {h : History}
-    → Step v after h → AreSteps Step v after h
-one_step {v = v} {after = after} {h = h} step = OneMore v after no_history h NoStep step
+  pub one_step : {v after : ServerValue} {h : History} → Step v after h → AreSteps Step v after h
+  one_step {v = v} {after = after} {h = h} step = OneMore v after no_history h NoStep step
 
-pub both_made : {Step : ServerValue → ServerValue → History → Type 0} {a b c : Journal} {u v w : ServerValue}
-    → HasAccepted (AreSteps Step u v) (Continues a b) u v → HasAccepted (AreSteps Step v w) (Continues b c) v w
-    → HasAccepted (AreSteps Step u w) (Continues a c) u w
-both_made one two = record {
-  history = history_then one.history two.history;
-  made = steps_then one.made two.made;
-  accepted = accepted_then one.accepted two.accepted;
-}
+  pub both_made : {a b c : Journal} {u v w : ServerValue} → HasAccepted (AreSteps Step u v) (Continues a b) u v
+      → HasAccepted (AreSteps Step v w) (Continues b c) v w → HasAccepted (AreSteps Step u w) (Continues a c) u w
+  both_made one two = record {
+    history = history_then one.history two.history;
+    made = steps_then one.made two.made;
+    accepted = accepted_then one.accepted two.accepted;
+  }
 
-pub none_made : {Step : ServerValue → ServerValue → History → Type 0} (a : Journal) {v after : ServerValue} → after ≡ v
-    → HasAccepted (AreSteps Step v after) (Continues a a) v after
-none_made a {v = v} {after = after} is = record {
-  history = no_history;
-  made = rw is NoStep;
-  accepted = accepted_none a v after is;
-}
+  pub none_made : (a : Journal) {v after : ServerValue} → after ≡ v
+      → HasAccepted (AreSteps Step v after) (Continues a a) v after
+  none_made a {v = v} {after = after} is =
+      record { history = no_history; made = rw is NoStep; accepted = accepted_none a v after is }
 
--- Steps without an exchange.
-pub calls_made : {Step : ServerValue → ServerValue → History → Type 0} {a b : Following} {p : Answering}
-    {v after : ServerValue} {events : List AcceptedCall} → AreSteps Step v after (calls_only events)
-    → AreCallsBetween a b v after events
-    → HasAccepted (AreSteps Step v after) (Continues (journal a p) (journal b p)) v after
-calls_made {p = p} steps made = record { history = _; made = steps; accepted = calls_accepted p made }
+  -- Steps without an exchange.
+  pub calls_made : {a b : Following} {p : Answering} {v after : ServerValue} {events : List AcceptedCall}
+      → AreSteps Step v after (calls_only events) → AreCallsBetween a b v after events
+      → HasAccepted (AreSteps Step v after) (Continues (journal a p) (journal b p)) v after
+  calls_made {p = p} steps made = record { history = _; made = steps; accepted = calls_accepted p made }
 
 -- The connection was dropped.
 pub dropped_served : (a b : Following) (p q : Answering) (v : ServerValue) {after : ServerValue} (id : ℕ)
@@ -146,8 +137,7 @@ wrote_served id wrote is made = calls_made (rw is NoStep) made
 pub reason_left : (now : ℕ) (o : Option SessionValue) (why : DropReason) → is_there o ≡ true
     → IfSome (option_map (session_work now) o) (IsReasonFor why)
     → (work : ConnectionWork) × (option_map (session_work now) o ≡ Some work) × IsReasonFor why work
-reason_left now None why there is = absurd cc
-reason_left now (Some s) why there is = (session_work now s, refl, is)
+reason_left now o why there is = grind arith
 
 -- A connection that exists has some work left.
 pub work_left : (now : ℕ) (o : Option SessionValue) → is_there o ≡ true
@@ -167,8 +157,7 @@ none_offered v id bytes = grind arith
 
 none_requested : (v : ServerValue) (id limit : ℕ) (response : List ℕ) (o : Option Message)
     → have_moved (asking v id limit response o).events ≡ false
-none_requested v id limit response None = refl
-none_requested v id limit response (Some m) = none_offered v id (response_for v id m.token response)
+none_requested v id limit response o = grind (arith, none_offered)
 
 -- Some bytes are left, and a take accepted `k` of them.
 some_taken : (c k : ℕ) (left : List ℕ) → 0 < length left
@@ -199,40 +188,46 @@ served_moved v id bytes (response ∷ responses) made =
 -- The bytes that are kept, if the connection processes further messages.
 pub rest_kept : (stop : Option Reason) {left rest : List ℕ} → is_some stop ≡ false → left ≡ rest
     → left ≡ kept_unless stop rest
-rest_kept None going is = is
-rest_kept (Some why) going is = absurd cc
+rest_kept stop going is = grind arith
 
 pub none_kept : (stop : Option Reason) {left : List ℕ} (rest : List ℕ) → is_some stop ≡ true → left ≡ []
     → left ≡ kept_unless stop rest
-none_kept None rest stopped is = absurd cc
-none_kept (Some why) rest stopped is = is
+none_kept stop rest stopped is = grind arith
+
+-- The history of takes for an application.
+abbrev answered : ServerValue → ℕ → List ℕ → List (List ℕ) → History
+answered v id bytes responses =
+    record { events = (served v id bytes responses).events; exchanges = (served v id bytes responses).exchanges }
+
+-- The same takes, whose history is known.
+served_so : {v after : ServerValue} {id count : ℕ} {bytes : List ℕ} {monitor : List AcceptedCall → Type 0}
+    {asks told : List Exchange → Type 0} (part : IsServedWith v id bytes count after monitor asks)
+    → told (answered v id bytes part.responses).exchanges
+    → IsServedWith v id bytes count after (λ all. (answered v id bytes part.responses).events ≡ all) told
+served_so part exchanged = record {
+  responses = part.responses;
+  made = part.made;
+  over = part.over;
+  nobody = part.nobody;
+  counted = part.counted;
+  server = part.server;
+  shows = part.shows;
+  reports = refl;
+  exchanged = exchanged;
+}
 
 pub taken_in_part : {A : Type 0} (follows : A → Answering) (one other : A) (a b : Following) {v after : ServerValue}
     (id count : ℕ) (bytes : List ℕ) {left : List ℕ}
     → IsServedWith v id bytes count after (FollowsMore a b) (AnswersMore (follows one) (follows other))
-    → left ≡ kept_rest after id count bytes
-    → HasAccepted
+    → left ≡ kept_rest after id count bytes → HasAccepted
     (λ h. IsTakenInPart (IsTakenWith follows) v id bytes left (record { server = after; count = count; history = h }))
     (Continues (journal a (follows one)) (journal b (follows other))) v after
 taken_in_part follows one other a b {v = v} id count bytes part rest = record {
-  history = record {
-    events = (served v id bytes part.responses).events;
-    exchanges = (served v id bytes part.responses).exchanges;
-  };
+  history = answered v id bytes part.responses;
   made = record {
-    took = record {
-      responses = part.responses;
-      made = part.made;
-      over = part.over;
-      nobody = part.nobody;
-      counted = part.counted;
-      server = part.server;
-      shows = part.shows;
-      reports = refl;
-      exchanged = (refl, one, other, part.exchanged);
-    };
+    took = served_so part (refl, one, other, part.exchanged);
     rest = rest;
-    moved = served_moved v id bytes part.responses part.made ∙ ap (λ n. nat_lt 0 n) (sym part.counted);
+    moved = rw part.counted (served_moved v id bytes part.responses part.made);
   };
   accepted = record { shows = part.shows; known = record { calls = part.reports; exchanged = part.exchanged } };
 }
@@ -241,28 +236,8 @@ pub with_served : (a b : Following) (p q : Answering) (v after : ServerValue) (i
     → IsServedWith v id bytes count after (FollowsMore a b) (AnswersMore p q)
     → HasServed (Continues (journal a p) (journal b q)) v after
 with_served a b p q v after id count bytes part = record {
-  history = record {
-    events = (served v id bytes part.responses).events;
-    exchanges = (served v id bytes part.responses).exchanges;
-  };
-  made = one_step (BytesTaken after _ (record {
-    id = id;
-    bytes = bytes;
-    how = inl (
-      count,
-      record {
-        responses = part.responses;
-        made = part.made;
-        over = part.over;
-        nobody = part.nobody;
-        counted = part.counted;
-        server = part.server;
-        shows = part.shows;
-        reports = refl;
-        exchanged = refl;
-      },
-    );
-  }));
+  history = answered v id bytes part.responses;
+  made = one_step (BytesTaken after _ (record { id = id; bytes = bytes; how = inl (count, served_so part refl) }));
   accepted = record { shows = part.shows; known = record { calls = part.reports; exchanged = part.exchanged } };
 }
 
@@ -323,4 +298,75 @@ turned_so_far {p = p} {v = v} one = record {
   history = opening_then v one.opens no_history;
   made = record { opens = one.opens; visits = no_history; steps = rw one.server NoStep; all = refl };
   accepted = rw append-nil (calls_accepted p one.calls);
+}
+
+-- ---- later responses
+
+-- This number of later responses was given, with these events and exchanges.
+pub record HasGivenLater (v : ServerValue) (number : ℕ) (after : ServerValue) (a b : Following)
+    (p q : Answering) : Type 0 where
+  pub events : List AcceptedCall
+  pub exchanges : List Exchange
+  pub given : AreGivenLater v number after events exchanges
+  pub shows : ShowsMore v after events
+  pub reports : FollowsMore a b events
+  pub exchanged : AnswersMore p q exchanges
+
+pub none_given : {a : Following} {p : Answering} {v : ServerValue} → HasGivenLater v 0 v a a p p
+none_given {a = a} {p = p} {v = v} = record {
+  events = [];
+  exchanges = [];
+  given = NothingGiven;
+  shows = shows_same v v refl;
+  reports = followed_none a;
+  exchanged = answered_none p;
+}
+
+-- The application was not asked.
+pub not_requested : (a : Following) (p : Answering) {v : ServerValue}
+    → AreRequestedLater v 256 false v (FollowsMore a a) (AnswersMore p p)
+not_requested a p {v = v} = record {
+  number = 0;
+  events = [];
+  exchanges = [];
+  given = NothingGiven;
+  within = omega arith;
+  over = refl;
+  shows = shows_same v v refl;
+  reports = followed_none a;
+  exchanged = answered_none p;
+}
+
+-- One more response was given.
+pub one_more_given : {a b c : Following} {p q r : Answering} {v u w : ServerValue} {n : ℕ} (id : Option ℕ)
+    {is_one : Bool} → HasGivenLater v n u a b p q → is_one ≡ is_some id
+    → IsRequestedLater u id w (FollowsMore b c) (AnswersMore q r) → is_one ≡ true → HasGivenLater v (n + 1) w a c p r
+one_more_given None so_far is requested one = absurd (cc (is, one))
+one_more_given {n = n} (Some id) so_far is requested one = record {
+  events = so_far.events ++ _;
+  exchanges = so_far.exchanges ++ _;
+  given =
+      rw (add-one n, requested.server) (OneMoreGiven n _ so_far.events so_far.exchanges id requested.bytes
+      requested.outcome so_far.given requested.refused requested.reply);
+  shows = shows_then _ _ _ _ _ so_far.shows requested.shows;
+  reports = followed_then _ _ _ _ _ so_far.reports requested.reports;
+  exchanged = answered_then _ _ _ _ _ so_far.exchanged requested.exchanged;
+}
+
+-- The application had no more.
+pub no_more_given : {a b : Following} (c : Following) {p q : Answering} (r : Answering) {v u w : ServerValue}
+    {n most : ℕ} (id : Option ℕ) {is_one : Bool} → HasGivenLater v n u a b p q → is_one ≡ is_some id
+    → IsRequestedLater u id w (FollowsMore b c) (AnswersMore q r) → is_one ≡ false
+    → n ≤ most → AreRequestedLater v most (n == most) w (FollowsMore a c) (AnswersMore p r)
+no_more_given c r (Some id) so_far is requested none within = absurd (cc (is, none))
+no_more_given c r {u = u} {w = w} {n = n} None so_far is requested none within = record {
+  number = n;
+  events = so_far.events ++ [];
+  exchanges = so_far.exchanges ++ [];
+  given = rw (append-nil, append-nil, requested.0) so_far.given;
+  within = within;
+  over = refl;
+  shows = shows_then _ u w _ [] so_far.shows (shows_same u w requested.0);
+  reports = followed_then _ _ _ _ [] so_far.reports requested.1.0;
+  exchanged = answered_then _ _ _ _ [] so_far.exchanged requested.1.1;
 }

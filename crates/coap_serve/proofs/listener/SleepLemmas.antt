@@ -1,29 +1,150 @@
--- The connections of a server and their transport sides, and those that sleep.
+-- Looks at connections: whether something can be done on them, and how long the listener may wait. The connections of a
+-- server and their transport sides, and those that sleep.
 use Rattle.std.proofs.Common.{◌≡◌, ◌≢◌, ℕ, zero, suc, ◌+◌, ◌<◌, ◌≤◌, Bool, true, false, List, ◌∷◌, [], ◌++◌, length}
-use Rattle.std.proofs.Common.{map, nat_eq, Option, Some, None, IfSome, OnOk, OnErr, Result, Ok, Err, refl, sym, ap}
-use Rattle.std.proofs.Common.{subst, ◌∙◌, inl, inr, arith, remove, slice_get, ◌==◌, ◌||◌, is_some}
+use Rattle.std.proofs.Common.{map, nat_eq, Option, Some, None, IfSome, OnOk, OnErr, Result, Ok, Err, refl, sym, ap, ◌∙◌}
+use Rattle.std.proofs.Common.{inl, inr, arith, remove, slice_get, ◌||◌, is_some, drop, subst, ◌&&◌}
 use Rattle.std.specs.List.{position_or_len}
 use Rattle.std.specs.Set.{remove_key}
-use Rattle.std.proofs.lemmas.Bool.{cases_eq, cases_lt, or_parts}
+use Rattle.std.proofs.lemmas.Bool.{cases_eq, cases_lt, or_parts, or_left}
 use Rattle.std.proofs.lemmas.Bool.Decides.{nat_tests}
-use Rattle.std.proofs.lemmas.List.{length-append, map-append}
+use Rattle.std.proofs.lemmas.List.{length-append, map-append, drop_all}
 use Rattle.std.proofs.lemmas.Map.Entries.{length-keys_of}
 use Rattle.std.proofs.lemmas.Option.{slice_get-map, slice_get_within}
 use Rattle.indexmap.proofs.CallerLemmas.{keys-shift_remove_entry}
 use Rattle.indexmap.proofs.SetLemmas.{map-remove}
-use Rattle.coap_model.proofs.OptionLemmas.{one_made}
-use Rattle.coap_server_engine.specs.Prelude.{KeepsOthers, KeepsWork}
-use Rattle.coap_serve.specs.Prelude.{AreAsleep, ArePaired, AreSettled, CanGoOn, ConnectionWork, IsDistinct, IsOutside}
-use Rattle.coap_serve.specs.Prelude.{KeepsBeside, LiesAt, MaySleep, Peer, PeerInterest, PeerStatus, ServerValue}
-use Rattle.coap_serve.specs.Prelude.{SleepOn, bit_of, insert_entry, keys_of, work_of, peer_status, server_dropped}
-use Rattle.coap_serve.specs.Prelude.{server_opened, set_value_at, shift_remove_entry, status_with, values_of}
-use Rattle.coap_serve.specs.Prelude.{interest_in}
-use Rattle.coap_serve.specs.Prelude.{interest_of}
+use Rattle.coap_model.proofs.OptionLemmas.{one_made, there_is_none}
+use Rattle.coap_serve.specs.Prelude.{AreAsleep, ArePaired, AreSettled, CanGoOn, IsDistinct, IsOutside, KeepsBeside}
+use Rattle.coap_serve.specs.Prelude.{LiesAt, MaySleep, Peer, PeerInterest, PeerStatus, ServerValue, SleepOn, bit_of}
+use Rattle.coap_serve.specs.Prelude.{insert_entry, keys_of, work_of, peer_status, server_dropped, server_opened}
+use Rattle.coap_serve.specs.Prelude.{set_value_at, shift_remove_entry, status_with, values_of, interest_of, KeepsOthers}
+use Rattle.coap_serve.specs.Prelude.{KeepsWork, CanAnyGoOn, IsReadiness, IsWaitAfter, No, is_known_ready, known}
+use Rattle.coap_serve.specs.Prelude.{least_with, sooner, wait_until}
 use Rattle.coap_serve.specs.declared.door.awake.Awake.{Awake}
 use Rattle.coap_server_engine.proofs.values.ServerLemmas.{lies_by_key, lies_still}
 use Rattle.coap_server_engine.proofs.values.WorkLemmas.{dropped_keys, opened_keeps, opened_keys}
-use Rattle.coap_serve.proofs.listener.EntryLemmas.{each_written, keys_written, set_there, value_at}
-use Rattle.coap_serve.proofs.listener.LookLemmas.{calm_from, idle_from}
+use Rattle.coap_serve.proofs.listener.EntryLemmas.{each_written, keys_written, set_there, value_at, carried_on}
+use Rattle.coap_serve.proofs.listener.EntryLemmas.{next_first, some_at_index}
+
+-- ---- one connection
+
+-- A possible result of asking a wire for its readiness.
+pub an_answer : (wanted : Bool) (recorded : Option Bool) → (answer : Bool) × IsReadiness wanted recorded answer
+an_answer true None = (false, tt)
+an_answer true (Some recorded) = (recorded, refl)
+an_answer false recorded = (false, refl)
+
+-- The readiness of a connection whose wire returned `reads` for a read.
+can_with : (e : PeerStatus) (reads : Bool) → IsReadiness e.interest.read e.readable reads
+    → CanGoOn e (e.interest.visit || reads
+    || (an_answer e.interest.write e.writable).0)
+can_with e reads requested = let writes = an_answer e.interest.write e.writable in record {
+  reads = reads;
+  writes = writes.0;
+  read = requested;
+  write = writes.1;
+  is = refl;
+}
+
+-- The connection is ready: it must be visited whatever its wire does, or its wire must be read and may be.
+pub can_go_on_so : (e : PeerStatus) (reads : Bool) {result : Bool} → IsReadiness e.interest.read e.readable reads
+    → (e.interest.visit || reads) ≡ true → result ≡ true → CanGoOn e result
+can_go_on_so e reads requested may is = subst (CanGoOn e) (or_left (e.interest.visit || reads) _ may ∙ sym is)
+    (can_with e reads requested)
+
+known_readiness : (wanted : Bool) {answer : Bool} (recorded : Option Bool) → IsReadiness wanted recorded answer
+    → answer ≡ false → (wanted && known recorded) ≡ false
+known_readiness wanted recorded requested is = grind arith
+
+readiness_known : (wanted : Bool) (recorded : Option Bool) → IsReadiness wanted recorded (wanted && known recorded)
+readiness_known wanted recorded = grind arith
+
+-- Nothing can be done on the connection.
+pub calm_from : (e : PeerStatus) → CanGoOn e false → is_known_ready e ≡ false
+calm_from e can =
+    let writes = or_parts (e.interest.visit || can.reads) can.writes (sym can.is) in
+    let reads = or_parts e.interest.visit can.reads writes.0 in
+    rw (
+      reads.0,
+      known_readiness e.interest.read e.readable can.read reads.1,
+      known_readiness e.interest.write e.writable can.write
+          writes.1,
+    ) refl
+
+pub idle_from : {e : PeerStatus} → MaySleep e → CanGoOn e false
+idle_from {e = e} sleeps = record {
+  reads = e.interest.read && known e.readable;
+  writes = e.interest.write && known e.writable;
+  read = readiness_known e.interest.read e.readable;
+  write = readiness_known e.interest.write e.writable;
+  is = sym sleeps.calm;
+}
+
+-- ---- all connections
+
+-- Some result that is possible for these connections.
+some_answer : (all : List PeerStatus) → (ready : Bool) × CanAnyGoOn all ready
+some_answer [] = (false, refl)
+some_answer (e ∷ es) =
+    let reads = an_answer e.interest.read e.readable in
+    let first = e.interest.visit || reads.0 || (an_answer e.interest.write e.writable).0 in
+    let others = some_answer es in
+    (first || others.0, (first, others.0, can_with e reads.0 reads.1, others.1, refl))
+
+-- Nothing can be done on the connections before an index, and `due` is their earliest deadline.
+pub record IsIdleTo (all : List PeerStatus) (at : ℕ) (due : Option ℕ) : Type 0 where
+  pub any : (ready : Bool) → CanAnyGoOn (drop at all) ready → CanAnyGoOn all ready
+  pub least : least_with due (drop at all) ≡ least_with None all
+
+pub none_idle : {all : List PeerStatus} → IsIdleTo all 0 None
+none_idle = record { any = λ ready can. can; least = refl }
+
+pub one_idle : {all : List PeerStatus} (at : ℕ) {due later : Option ℕ} {e : PeerStatus} → slice_get all at ≡ Some e
+    → CanGoOn e false → later ≡ sooner due e.interest.due → IsIdleTo all at due → IsIdleTo all (at + 1) later
+one_idle {all = all} at {e = e} there calm is idle =
+    let first = next_first all at there in
+    record {
+      any = λ ready can. idle.any ready (rw first (false, ready, calm, can, refl));
+      least = rw is
+          (rw first at idle.least);
+    }
+
+sooner_never : {due : Option ℕ} → due ≡ sooner due None
+sooner_never = grind arith
+
+-- Connections that sleep are skipped.
+pub sleepers_idle : {all : List PeerStatus} (at to : ℕ) {due : Option ℕ} → at ≤ to → to ≤ length all
+    → ((i : ℕ) (e : PeerStatus) → slice_get all i ≡ Some e → at ≤ i → i < to → MaySleep e) → IsIdleTo all at due
+    → IsIdleTo all to due
+sleepers_idle {all = all} at to {due = due} on within sleep idle =
+    carried_on (λ k. IsIdleTo all k due) at to on idle
+    (λ i after below before.
+    (let there = some_at_index all i (omega (arith, below, within)) in
+    let sleeps = sleep i there.0 there.1 after below in
+    one_idle i {due = due} there.1 (idle_from sleeps) (rw sleeps.never sooner_never) before))
+
+-- ---- the wait
+
+-- A connection was opened.
+pub opened_wait : (all : List PeerStatus) → IsWaitAfter true all No
+opened_wait all = let some = some_answer all in record { ready = some.0; can = some.1; is = refl }
+
+-- Something can be done at once on the next connection.
+pub ready_wait : {all : List PeerStatus} (at : ℕ) {due : Option ℕ} {e : PeerStatus} → slice_get all at ≡ Some e
+    → CanGoOn e true → IsIdleTo all at due → IsWaitAfter false all No
+ready_wait {all = all} at there can idle =
+    let others = some_answer (drop (at + 1) all) in
+    record {
+      ready = true;
+      can = idle.any true (rw (next_first all at there) (true, others.0, can, others.1, refl));
+      is = refl;
+    }
+
+-- Nothing can be done at once.
+pub calm_wait : {all : List PeerStatus} (at : ℕ) {due : Option ℕ} → length all ≤ at → IsIdleTo all at due → IsWaitAfter
+    false all (wait_until due)
+calm_wait {all = all} at {due = due} most idle =
+    let least = rw (drop_all at all most) at idle.least in
+    record { ready = false; can = idle.any false (rw (drop_all at all most) refl); is = ap wait_until least }
 
 -- ---- pairs
 
@@ -76,10 +197,8 @@ module _ {W : Type 0} {v : ServerValue} {es : List (ℕ × Peer W)} (paired : Ar
           (k ∷ ks) (position_or_len (nat_eq id) (k ∷ ks))) [
             | true ↦ λ is. rw is refl
             | false ↦ λ is.
-                let next : position_or_len (nat_eq id) (k ∷ ks) ≡ suc (position_or_len (nat_eq id) ks) = grind (
-                  arith,
-                  nat_tests,
-                ) in
+                let next : position_or_len (nat_eq id) (k ∷ ks) ≡ suc (position_or_len (nat_eq id) ks) =
+                grind (arith, nat_tests) in
                 rw (next, is) (ap (λ xs. k ∷ xs) (removed_key id ks))
           ] refl
 
@@ -139,8 +258,8 @@ sleep_woken {b = b} {v = v} {after = after} id at keeps lies awake asleep = reco
   each = λ i other there out.
       let was = lies_still id at after.sessions v.sessions (sym keeps.keys) lies in (
         asleep i out,
-        keeps.work other (λ (same : other ≡ id). let here : i ≡ at = sym there.index ∙
-            ap (λ k. position_or_len (nat_eq k) (keys_of v.sessions)) same ∙ was.index in awake (rw here at out)),
+        keeps.work other (λ (same : other ≡ id). let here : i ≡ at = cc (there.index, was.index) in awake
+            (rw here at out)),
       );
 }
 
@@ -170,10 +289,6 @@ beside_read id first = record { keys = first.keys; work = λ i other lies apart 
 
 -- ---- connections that sleep
 
-without : (due : Option ℕ) → is_some due ≡ false → due ≡ None
-without None none = refl
-without (Some moment) none = absurd cc
-
 -- If a connection sleeps after a look, it may do so.
 pub looked_sleeps : (b : Awake) (at : ℕ) (e : PeerStatus) (ready : Bool) → CanGoOn e ready
     → ((ready || is_some e.interest.due) ≡ true → IsOutside b.set.words at → ⊥) → IsOutside b.set.words at → MaySleep e
@@ -181,7 +296,7 @@ looked_sleeps b at e ready can awake outside =
     elim (ready || is_some e.interest.due) as (λ stays. (ready || is_some e.interest.due) ≡ stays → MaySleep e) [
       | true ↦ λ stays. absurd (awake stays outside)
       | false ↦ λ rests. let parts = or_parts ready (is_some e.interest.due) rests in
-          record { calm = calm_from e (rw parts.0 at can); never = without e.interest.due parts.1 }
+          record { calm = calm_from e (rw parts.0 at can); never = there_is_none e.interest.due parts.1 }
     ] refl
 
 early : {X : Type 0} (xs ys : List X) (i : ℕ) → i < length xs → slice_get (xs ++ ys) i ≡ slice_get xs i
@@ -201,52 +316,23 @@ module _ {W : Type 0} (readable writable : W → Option Bool) where
   -- A connection with the same work left has the same status.
   still_sleeps : (v after : ServerValue) (e : ℕ × Peer W) → work_of after e.0 ≡ work_of v e.0
       → MaySleep (peer_status readable writable v e) → MaySleep (peer_status readable writable after e)
-  still_sleeps v after e same sleeps = subst (λ (o : Option ConnectionWork). MaySleep (status_with readable writable
-      e.1.wire (interest_in o (length e.1.rest == 0)))) (sym same) sleeps
+  still_sleeps v after e same sleeps = rw same sleeps
 
-  -- If all connections are awake, none sleeps.
-  pub none_asleep : {a : Awake} {v : ServerValue} {es : List (ℕ × Peer W)} → ((i : ℕ) → i < 256 → bit_of a.set.words i ≡
-      1) → AreAsleep readable writable a v es
-  none_asleep all = record { each = λ i e at outside. absurd (omega (arith, all i outside.within, outside.bit)) }
-
-  pub some_woken : {a b : Awake} {v : ServerValue} {es : List (ℕ × Peer W)} → ((i : ℕ) → IsOutside b.set.words i
-      → IsOutside a.set.words i) → AreAsleep readable writable a v es → AreAsleep readable writable b v es
-  some_woken kept asleep = record { each = λ i e at outside. asleep.each i e at (kept i outside) }
-
-  pub asleep_on : {a b : Awake} {v after : ServerValue} {es : List (ℕ × Peer W)} → SleepOn a b v after → ArePaired v es
-      → AreAsleep readable writable a v es → AreAsleep readable writable b after es
-  asleep_on {v = v} {after = after} on paired asleep = record {
-    each = λ i e at outside. let same = on.each i e.0 (lies_there paired i at) outside in still_sleeps v after e same.1
-        (asleep.each i e at same.0);
-  }
-
-  -- The connection at an index was served.
-  pub asleep_beside : {a b : Awake} {v after : ServerValue} {es now : List (ℕ × Peer W)} (words : List ℕ) (at id : ℕ)
-      (was p : Peer W) → KeepsBeside id words v after → ArePaired v es → slice_get es at ≡ Some (id, was)
-      → now ≡ set_value_at es at p
-      → ((i : ℕ) → i ≢ at → IsOutside b.set.words i → IsOutside a.set.words i × IsOutside words i)
-      → (IsOutside b.set.words at → MaySleep (peer_status readable writable after (id, p))) → AreAsleep readable
-      writable a v es → AreAsleep readable writable b after now
-  asleep_beside {v = v} {after = after} {es = es} words at id was p keeps paired there is outside sleeps asleep =
-      record {
-        each = λ i e here out.
-            elim (cases_eq i at) [
-              | inl same ↦
-                  let found : Some e ≡ Some (id, p) = sym here ∙ ap (λ (xs : List (ℕ × Peer W)). slice_get xs i) is ∙
-                  ap (slice_get (set_value_at es at p)) same ∙ set_there es at p id was there in
-                  let entry : e ≡ (id, p) = cc in
-                  rw entry (sleeps (rw same at out))
-              | inr apart ↦
-                  let before : slice_get es i ≡ Some e = sym (each_written es at p i apart) ∙
-                  sym (ap (λ (xs : List (ℕ × Peer W)). slice_get xs i) is) ∙ here in
-                  let parts = outside i apart out in
-                  let lies = lies_there paired i before in
-                  let other : e.0 ≢ id =
-                  λ (same : e.0 ≡ id). apart (sym lies.index ∙ ap (λ k. position_or_len (nat_eq k)
-                  (keys_of v.sessions)) same ∙ (lies_there paired at there).index) in
-                  still_sleeps v after e (keeps.work i e.0 lies other parts.1) (asleep.each i e before parts.0)
-            ];
-      }
+  -- A look at the connection at an index.
+  pub looked_at : (v : ServerValue) (es : List (ℕ × Peer W)) (at : ℕ) {p : Peer W} {interest : PeerInterest}
+      {ready : Bool}
+      → IfSome (slice_get es at) (λ e. interest ≡ interest_of v e.0 e.1.rest) → slice_get (values_of es) at ≡ Some p
+      → CanGoOn (status_with readable writable p.wire interest) ready
+      → (e : ℕ × Peer W) × (slice_get es at ≡ Some e) × (interest ≡ interest_of v e.0 e.1.rest)
+      × CanGoOn (peer_status readable writable v e) ready
+  looked_at v es at {p = p} {interest = interest} {ready = ready} is there can =
+      let here = value_at es at p there in
+      let so = rw here.1 at is in (
+        here.0,
+        here.1,
+        so,
+        rw (← so, here.2) can,
+      )
 
   -- ---- an opened connection
 
@@ -278,8 +364,7 @@ module _ {W : Type 0} (readable writable : W → Option Bool) where
           elim (cases_lt i (length es)) [
             | inl early_on ↦
                 let apart : e.0 ≢ v.ids + 1 = λ (same : e.0 ≡ v.ids + 1).
-                let again : i ≡ length v.sessions = sym (lies_there paired_with_one i here).index ∙
-                ap (λ k. position_or_len (nat_eq k) (keys_of after.sessions)) (same ∙ sym number) ∙ lies.index in
+                let again : i ≡ length v.sessions = cc ((lies_there paired_with_one i here).index, lies.index) in
                 omega (arith, again, early_on, as_many) in
                 still_sleeps v after e (rw opened (opened_keeps v settled e.0 apart)) (asleep.each i e
                 (sym (early es ((id, p) ∷ []) i early_on) ∙ place) (kept i outside))
@@ -295,24 +380,48 @@ module _ {W : Type 0} (readable writable : W → Option Bool) where
           ];
     }
 
-  -- ---- looks
+module _ {W : Type 0} {readable writable : W → Option Bool} where
+  -- If all connections are awake, none sleeps.
+  pub none_asleep : {a : Awake} {v : ServerValue} {es : List (ℕ × Peer W)} → ((i : ℕ) → i < 256 → bit_of a.set.words i ≡
+      1) → AreAsleep readable writable a v es
+  none_asleep all = record { each = λ i e at outside. absurd (omega (arith, all i outside.within, outside.bit)) }
 
-  -- A look at the connection at an index.
-  pub looked_at : (v : ServerValue) (es : List (ℕ × Peer W)) (at : ℕ) {p : Peer W} {interest : PeerInterest}
-      {ready : Bool}
-      → IfSome (slice_get es at) (λ e. interest ≡ interest_of v e.0 e.1.rest) → slice_get (values_of es) at ≡ Some p
-      → CanGoOn (status_with readable writable p.wire interest) ready
-      → (e : ℕ × Peer W) × (slice_get es at ≡ Some e) × (interest ≡ interest_of v e.0 e.1.rest)
-      × CanGoOn (peer_status readable writable v e) ready
-  looked_at v es at {p = p} {interest = interest} {ready = ready} is there can =
-      let here = value_at es at p there in
-      let so = rw here.1 at is in (
-        here.0,
-        here.1,
-        so,
-        subst (λ (w : PeerInterest). CanGoOn (status_with readable writable here.0.1.wire w) ready) so
-            (subst (λ (q : Peer W). CanGoOn (status_with readable writable q.wire interest) ready) (sym here.2) can),
-      )
+  pub some_woken : {a b : Awake} {v : ServerValue} {es : List (ℕ × Peer W)} → ((i : ℕ) → IsOutside b.set.words i
+      → IsOutside a.set.words i) → AreAsleep readable writable a v es → AreAsleep readable writable b v es
+  some_woken kept asleep = record { each = λ i e at outside. asleep.each i e at (kept i outside) }
+
+  pub asleep_on : {a b : Awake} {v after : ServerValue} {es : List (ℕ × Peer W)} → SleepOn a b v after → ArePaired v es
+      → AreAsleep readable writable a v es → AreAsleep readable writable b after es
+  asleep_on {v = v} {after = after} on paired asleep = record {
+    each = λ i e at outside. let same = on.each i e.0 (lies_there paired i at) outside in still_sleeps readable writable
+        v after e same.1
+        (asleep.each i e at same.0);
+  }
+
+  -- The connection at an index was served.
+  pub asleep_beside : {a b : Awake} {v after : ServerValue} {es now : List (ℕ × Peer W)} (words : List ℕ) (at id : ℕ)
+      (was p : Peer W) → KeepsBeside id words v after → ArePaired v es → slice_get es at ≡ Some (id, was)
+      → now ≡ set_value_at es at p
+      → ((i : ℕ) → i ≢ at → IsOutside b.set.words i → IsOutside a.set.words i × IsOutside words i)
+      → (IsOutside b.set.words at → MaySleep (peer_status readable writable after (id, p))) → AreAsleep readable
+      writable a v es → AreAsleep readable writable b after now
+  asleep_beside {v = v} {after = after} {es = es} words at id was p keeps paired there is outside sleeps asleep =
+      record {
+        each = λ i e here out.
+            elim (cases_eq i at) [
+              | inl same ↦
+                  let entry : e ≡ (id, p) = cc (set_there es at p id was there) in
+                  rw entry (sleeps (rw same at out))
+              | inr apart ↦
+                  let before : slice_get es i ≡ Some e = cc (each_written es at p i apart) in
+                  let parts = outside i apart out in
+                  let lies = lies_there paired i before in
+                  let other : e.0 ≢ id =
+                  λ (same : e.0 ≡ id). apart (cc (lies.index, (lies_there paired at there).index)) in
+                  still_sleeps readable writable v after e (keeps.work i e.0 lies other parts.1) (asleep.each i e before
+                  parts.0)
+            ];
+      }
 
   module _ {a : Awake} {v : ServerValue} {es : List (ℕ × Peer W)} (asleep : AreAsleep readable writable a v es) where
     -- Nothing can be done on connections that sleep.

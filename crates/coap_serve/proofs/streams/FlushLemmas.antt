@@ -1,9 +1,9 @@
 -- A flush, one iteration after the other, as the code makes it and reports it to a monitor.
-use Rattle.std.proofs.Common.{◌≡◌, ℕ, suc, ◌≤◌, List, [], ◌∷◌, length, take, Option, Some, None, Bool, true, false}
-use Rattle.std.proofs.Common.{refl, sym, ap, ◌∙◌, arith, inl, inr, not}
+use Rattle.std.proofs.Common.{◌≡◌, ℕ, suc, ◌≤◌, List, [], length, take, Option, None, Bool, true, false, refl, sym, ap}
+use Rattle.std.proofs.Common.{◌∙◌, arith, inl, inr, not}
 use Rattle.std.proofs.lemmas.List.{append-nil, take_all}
-use Rattle.coap_serve.specs.Prelude.{Wrote, AddsBytes, WritesPart, FollowsMore, Following, ServerValue, waiting_at}
-use Rattle.coap_serve.specs.Prelude.{more_at, flush_turns, flush_calls, calls_of_flush, IsFlushedOnce, IsReportedFlush}
+use Rattle.coap_serve.specs.Prelude.{AddsBytes, WritesPart, FollowsMore, Following, ServerValue, waiting_at, more_at}
+use Rattle.coap_serve.specs.Prelude.{flush_turns, flush_calls, calls_of_flush, IsFlushedOnce, IsReportedFlush}
 use Rattle.coap_serve.specs.Prelude.{IsCutFlush, Reason, SessionValue, LiesAt, is_there, session_of, session_written}
 use Rattle.coap_serve.specs.Prelude.{stop_on, waiting_in}
 use Rattle.coap_server_engine.proofs.values.ServerLemmas.{lies_where_taken}
@@ -22,9 +22,9 @@ pub record ReportsFlush (id : ℕ) (v : ServerValue) (turns : ℕ) (now : Server
   pub written : AddsBytes x y (flush_turns turns id v).text
   pub reports : FollowsMore a m (calls_of_flush turns id v)
 
-pub report_begins : (id : ℕ) (v : ServerValue) (x : Option (List ℕ)) {a : Following} → ReportsFlush id v 0 v x x a a
+pub report_begins : {id : ℕ} {v : ServerValue} {x : Option (List ℕ)} {a : Following} → ReportsFlush id v 0 v x x a a
 unfolding flush_turns calls_of_flush
-report_begins id v x {a = a} = record { server = refl; written = bytes_none x; reports = followed_none a }
+report_begins {x = x} {a = a} = record { server = refl; written = bytes_none x; reports = followed_none a }
 
 -- The state after an iteration of the code: as above if it wrote something, otherwise the flush is complete.
 abbrev pub AfterFlush : ℕ → ServerValue → ℕ → ServerValue → (x y : Option (List ℕ)) (a m : Following)
@@ -32,31 +32,30 @@ abbrev pub AfterFlush : ℕ → ServerValue → ℕ → ServerValue → (x y : O
 AfterFlush id v turns now x y a m true = ReportsFlush id v turns now x y a m
 AfterFlush id v turns now x y a m false = IsReportedFlush id v now (AddsBytes x y) (FollowsMore a m)
 
-pub report_more : {id : ℕ} {v : ServerValue} (turns : ℕ) {now : ServerValue} (x y z : Option (List ℕ))
-    (a m n : Following) (next : ServerValue) (more : ℕ) (waited : Bool) → ReportsFlush id v turns now x y a m
+pub report_more : {id : ℕ} {v : ServerValue} {turns : ℕ} {now : ServerValue} {x y : Option (List ℕ)}
+    (z : Option (List ℕ)) {a m : Following} (n : Following) (next : ServerValue) (more : ℕ) (waited : Bool) →
+    ReportsFlush id v turns now x y a m
     → turns ≤ suc (more_at id v) → more ≡ suc turns → IsFlushedOnce id now next (AddsBytes y z) waited
     → FollowsMore m n (flush_calls id now waited) → AfterFlush id v more next x z a n waited
 unfolding flush_turns calls_of_flush
-report_more {id = id} {v = v} turns {now = now} x y z a m n next more true so_far within one did reported = rw one
-    (record {
+report_more {id = id} {v = v} {turns = turns} {now = now} {x = x} {y = y} z {a = a} {m = m} n next more true so_far
+    within one did reported = rw one (record {
       server = cc (did.0, so_far.server);
       written =
           rw so_far.server at (bytes_then x y z (flush_turns turns id v).text (waiting_at id now) so_far.written did.1);
-      reports =
-          followed_then a m n (calls_of_flush turns id v)
-          (Wrote id (length (waiting_at id (flush_turns turns id v).server)) ∷ []) so_far.reports
-          (rw so_far.server at reported);
+      reports = followed_then a m n _ _ so_far.reports (rw so_far.server at reported);
     })
-report_more {id = id} {v = v} turns x y z a m n next more false so_far within one did reported = record {
-  flushed = record {
-    turns = turns;
-    within = within;
-    done = inl (ap (waiting_at id) did.1 ∙ did.0);
-    server = did.1 ∙ so_far.server;
-    written = rw append-nil at (bytes_then x y z (flush_turns turns id v).text [] so_far.written did.2);
-  };
-  reports = rw append-nil at (followed_then a m n (calls_of_flush turns id v) [] so_far.reports reported);
-}
+report_more {id = id} {turns = turns} {x = x} {y = y} z {a = a} {m = m} n next more false so_far within one did
+    reported = record {
+      flushed = record {
+        turns = turns;
+        within = within;
+        done = inl (ap (waiting_at id) did.1 ∙ did.0);
+        server = did.1 ∙ so_far.server;
+        written = rw append-nil at (bytes_then x y z _ [] so_far.written did.2);
+      };
+      reports = rw append-nil at (followed_then a m n _ [] so_far.reports reported);
+    }
 
 pub report_goes_on : {id : ℕ} {v : ServerValue} {turns : ℕ} {now : ServerValue} {x y : Option (List ℕ)}
     {a m : Following} (waited : Bool) → not waited ≡ false → AfterFlush id v turns now x y a m waited
@@ -65,10 +64,10 @@ report_goes_on true is so_far = so_far
 report_goes_on false is so_far = absurd cc
 
 -- A write failed in one more iteration.
-pub report_cut : {id : ℕ} {v : ServerValue} {turns : ℕ} {now : ServerValue} (x y z : Option (List ℕ)) (a m : Following)
-    → ReportsFlush id v turns now x y a m → turns ≤ more_at id v → WritesPart y z (waiting_at id now)
-    → IsCutFlush id v (AddsBytes x z) (FollowsMore a m)
-report_cut {id = id} {v = v} {turns = turns} x y z a m so_far within wrote = record {
+pub report_cut : {id : ℕ} {v : ServerValue} {turns : ℕ} {now : ServerValue} {x y : Option (List ℕ)}
+    (z : Option (List ℕ)) {a m : Following} → ReportsFlush id v turns now x y a m → turns ≤ more_at id v
+    → WritesPart y z (waiting_at id now) → IsCutFlush id v (AddsBytes x z) (FollowsMore a m)
+report_cut {id = id} {turns = turns} {x = x} {y = y} z so_far within wrote = record {
   turns = turns;
   within = within;
   reports = so_far.reports;
@@ -76,7 +75,7 @@ report_cut {id = id} {v = v} {turns = turns} x y z a m so_far within wrote = rec
   missing = wrote.1;
   some = wrote.2;
   all = ap (waiting_at id) (sym so_far.server) ∙ wrote.3;
-  written = bytes_then x y z (flush_turns turns id v).text wrote.0 so_far.written wrote.4;
+  written = bytes_then x y z _ wrote.0 so_far.written wrote.4;
 }
 
 -- The last iteration wrote nothing.
@@ -112,12 +111,10 @@ flushed_lies id i v after wrote true lies did =
 flushed_lies id i v after wrote false lies did = rw did.1 lies
 
 none_waits : (o : Option SessionValue) → false ≡ is_there o → waiting_in o ≡ []
-none_waits None none = refl
-none_waits (Some s) none = absurd cc
+none_waits o none = grind arith
 
 pub none_stops : (o : Option SessionValue) → false ≡ is_there o → ◌≡◌ {A = Option Reason} None (stop_on o)
-none_stops None none = refl
-none_stops (Some s) none = absurd cc
+none_stops o none = grind arith
 
 -- There is no connection with this id.
 pub none_flushed : (id : ℕ) {v : ServerValue} (x : Option (List ℕ)) (a : Following)

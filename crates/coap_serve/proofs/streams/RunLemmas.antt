@@ -1,17 +1,17 @@
 -- A run, one turn after the other.
-use Rattle.std.proofs.Common.{◌≡◌, ◌≢◌, ℕ, ◌≤◌, List, [], ◌∷◌, ◌++◌, length, take, Ok, Err, refl, sym, ap, subst, ◌∙◌}
-use Rattle.std.proofs.Common.{arith, inr, ◌+◌, ◌<◌, Option, Some, None, Result, append_assoc, inl, Bool, true, false}
+use Rattle.std.proofs.Common.{◌≡◌, ◌≢◌, ℕ, ◌≤◌, List, [], ◌∷◌, ◌++◌, length, take, Ok, Err, refl, sym, ap, ◌∙◌, arith}
+use Rattle.std.proofs.Common.{subst, inr, ◌+◌, ◌<◌, Option, Some, None, Result, append_assoc, inl, Bool, true, false}
 use Rattle.std.proofs.lemmas.List.{length-take-le, append-nil, length-append}
 use Rattle.std.proofs.lemmas.List.Folds.{concat-append}
 use Rattle.coap_serve.specs.Prelude.{concat, AllByRecursion, Reason, end_reason, AreInRange, stop_of, Stream}
 use Rattle.coap_serve.specs.Prelude.{ConfigValues, IoFault, Read, Write, Memory, Turns, Report, Turn, FollowsMore}
-use Rattle.coap_serve.specs.Prelude.{Following, IsReportedFlush, IsCutFlush, HasReportedEnd, HasReportedCut, EndsReport}
-use Rattle.coap_serve.specs.Prelude.{IsReportedRun, ServerValue, session_of, new_server, server_opened, is_there}
-use Rattle.coap_serve.specs.Prelude.{stop_on, DeviceTrace, HasGiven, pieces_read, AddsBytes, only_id, outcome}
-use Rattle.coap_serve.specs.Prelude.{stream_of, stdio_output, IsRunningAt, IsWhole, Says, HasRead, IsTurn, AreNotEmpty}
-use Rattle.coap_serve.specs.Prelude.{GoesOn, IsStdioRun, AcceptedCall, Opened, steps_by, world_after, Ended, stream_on}
-use Rattle.coap_serve.specs.Prelude.{Shows, is_cut, new_side, Connection, side_ended, settled, World, side_of, step}
-use Rattle.coap_serve.specs.Prelude.{is_read_fault}
+use Rattle.coap_serve.specs.Prelude.{Following, IsReportedFlush, IsCutFlush, HasReportedEnd, EndsReport, IsReportedRun}
+use Rattle.coap_serve.specs.Prelude.{ServerValue, session_of, new_server, server_opened, is_there, stop_on, DeviceTrace}
+use Rattle.coap_serve.specs.Prelude.{HasGiven, pieces_read, AddsBytes, only_id, outcome, stream_of, stdio_output}
+use Rattle.coap_serve.specs.Prelude.{IsRunningAt, IsWhole, Says, HasRead, IsTurn, AreNotEmpty, GoesOn, IsStdioRun}
+use Rattle.coap_serve.specs.Prelude.{AcceptedCall, Opened, steps_by, world_after, Ended, stream_on, Shows, is_cut}
+use Rattle.coap_serve.specs.Prelude.{new_side, Connection, side_ended, settled, World, side_of, step, is_read_fault}
+use Rattle.coap_serve.specs.Prelude.{LeavesNothing, LeavesNothingWaiting, HasReportedCut, IsAtBytes, Outcome}
 use Rattle.coap_serve.specs.streams.StdioRun.{EndsRun}
 use Rattle.coap_serve.specs.streams.StdioProgress.{IsServed}
 use Rattle.coap_model.specs.world.World as world
@@ -22,9 +22,9 @@ use Rattle.coap_server_engine.proofs.world.ShowLaws.{side_there}
 use Rattle.coap_model.proofs.world.StepLaws.{world_first, world_step}
 use Rattle.coap_io.proofs.streams.DeviceLemmas.{bytes_none, bytes_then, given_none, given_then}
 use Rattle.coap_model.proofs.streams.OutputLaws.{world_for_written, world_for_none, takes_unless_stopped}
-use Rattle.coap_model.proofs.streams.OutputLaws.{outcome_at_first, opened_alone, nothing_yet}
-use Rattle.coap_serve.proofs.streams.FlushShown.{LeadsTo, flush_is_at}
-use Rattle.coap_serve.proofs.streams.CallLemmas.{transfers_opened, whole_transfers, running_reported, stopped_reported}
+use Rattle.coap_model.proofs.streams.OutputLaws.{outcome_at_first, opened_alone, nothing_yet, outcome_there}
+use Rattle.coap_serve.proofs.streams.CallLemmas.{LeadsTo, flush_is_at, transfers_opened, whole_transfers}
+use Rattle.coap_serve.proofs.streams.CallLemmas.{running_reported, stopped_reported, OnCalls}
 use Rattle.coap_serve.proofs.streams.TakeLemmas.{cut_flush_leads, stop_reported, session_going}
 use Rattle.coap_server_engine.proofs.scripting.FollowLemmas.{followed_none, followed_then}
 
@@ -34,34 +34,36 @@ pub has_read : (a b : DeviceTrace) (buffer : List ℕ) (n : ℕ) → length buff
     → HasGiven a b (pieces_read buffer n) → HasRead (HasGiven a b) (take n buffer)
 has_read a b buffer n room within some gave = record {
   given = rw room at gave;
-  some = λ none. some (sym (length-take-le n buffer within) ∙ ap (λ (bytes : List ℕ). length bytes) none);
+  some = λ none. some (sym (length-take-le n buffer within) ∙ ap length none);
   few = omega (arith, length-take-le n buffer within, within, room);
 }
 
-pub turn_fault : (c : ConfigValues) (bytes piece : List ℕ) (after : ServerValue) {gave : List (List ℕ) → Type 0}
-    (wrote : List ℕ → Type 0) (monitor : List AcceptedCall → Type 0) (e : IoFault) → HasRead gave piece
-    → IsServed c bytes piece after wrote monitor (Err e) → IsTurn c bytes after gave wrote monitor (Err e)
-turn_fault c bytes piece after wrote monitor Read has did = absurd did
-turn_fault c bytes piece after wrote monitor Write has did = (piece, has, did)
-turn_fault c bytes piece after wrote monitor Memory has did = (piece, has, did)
-turn_fault c bytes piece after wrote monitor Turns has did = absurd did
+pub turn_fault : (c : ConfigValues) (bytes : List ℕ) {piece : List ℕ} (after : ServerValue)
+    {gave : List (List ℕ) → Type 0} (wrote : List ℕ → Type 0) (monitor : OnCalls) (e : IoFault)
+    → HasRead gave piece → IsServed c bytes piece after wrote monitor (Err e)
+    → IsTurn c bytes after gave wrote monitor (Err e)
+turn_fault c bytes after wrote monitor Read has did = absurd did
+turn_fault c bytes after wrote monitor Write has did = (_, has, did)
+turn_fault c bytes after wrote monitor Memory has did = (_, has, did)
+turn_fault c bytes after wrote monitor Turns has did = absurd did
 
-pub turn_piece : (c : ConfigValues) {id : ℕ} (bytes piece : List ℕ) (after : ServerValue)
-    (gave : List (List ℕ) → Type 0) (wrote : List ℕ → Type 0) (monitor : List AcceptedCall → Type 0) (t : Turn)
-    → id ≡ only_id c → HasRead gave piece → IsWhole c bytes piece after wrote monitor t.messages → t.read ≡ length piece
+pub turn_piece : {c : ConfigValues} {id : ℕ} {bytes piece : List ℕ} {after : ServerValue} {gave : List (List ℕ) → Type
+    0}
+    {wrote : List ℕ → Type 0} {monitor : OnCalls} (t : Turn) → id ≡ only_id c → HasRead gave piece
+    → IsWhole c bytes piece after wrote monitor t.messages → t.read ≡ length piece
     → t.stop ≡ stop_on (session_of id after.sessions) → IsTurn c bytes after gave wrote monitor (Ok t)
-turn_piece c bytes piece after gave wrote monitor t number has did read_is stop_is =
+turn_piece {piece = piece} t number has did read_is stop_is =
     inr (record {
       piece = piece;
       has = has;
       served = did;
       read = read_is;
-      reason = rw number at stop_is ∙ stop_reported c after did.is_at;
+      reason = rw number at stop_is ∙ stop_reported did.is_at;
     })
 
 -- An error of a chunk is no failed read.
 pub not_unread : (c : ConfigValues) (bytes piece : List ℕ) (after : ServerValue) (wrote : List ℕ → Type 0)
-    (monitor : List AcceptedCall → Type 0) (e : IoFault) → IsServed c bytes piece after wrote monitor (Err e)
+    (monitor : OnCalls) (e : IoFault) → IsServed c bytes piece after wrote monitor (Err e)
     → is_read_fault {T = Turn} (Err e) ≡ false
 not_unread c bytes piece after wrote monitor Read did = absurd did
 not_unread c bytes piece after wrote monitor other did = grind arith
@@ -75,7 +77,7 @@ not_empty-push (q ∷ ps) p each some = (each.0, not_empty-push ps p each.1 some
 -- After `turns` turns, `read` bytes were read and `messages` messages were processed. `a` and `b` are the records of
 -- the source before the run and now; `x` and `y` are those of the outlet.
 pub record RunsOn (c : ConfigValues) (id turns read messages : ℕ) (v : ServerValue) (a b : DeviceTrace)
-    (x y : Option (List ℕ)) (monitor : List AcceptedCall → Type 0) : Type 0 where
+    (x y : Option (List ℕ)) (monitor : OnCalls) : Type 0 where
   pub pieces : List (List ℕ)
   pub output : List ℕ
   pub reported : HasGiven a b pieces
@@ -90,15 +92,15 @@ pub record RunsOn (c : ConfigValues) (id turns read messages : ℕ) (v : ServerV
 
 -- The rest of a run that ended, after the output `front` was written.
 abbrev pub Ran : ConfigValues → List ℕ → DeviceTrace → DeviceTrace → Option (List ℕ) → Option (List ℕ)
-    → (monitor : List AcceptedCall → Type 0) → Result Report IoFault → Type 0
+    → (monitor : OnCalls) → Result Report IoFault → Type 0
 Ran c front a b x y monitor result =
     (pieces : List (List ℕ)) × (output : List ℕ) × HasGiven a b pieces × AllByRecursion (λ p. length p ≤ 4096) pieces
     × AddsBytes x y output × IsStdioRun c pieces (front ++ output) result
     × IsReportedRun c pieces (front ++ output) monitor result
 
-pub run_begins : {c : ConfigValues} {id : ℕ} {v : ServerValue} (a : DeviceTrace) (x : Option (List ℕ))
-    {monitor : List AcceptedCall → Type 0} → IsRunningAt c v id [] monitor → RunsOn c id 0 0 0 v a a x x monitor
-run_begins {c = c} a x goes = record {
+pub run_begins : {c : ConfigValues} {id : ℕ} {v : ServerValue} {a : DeviceTrace} {x : Option (List ℕ)}
+    {monitor : OnCalls} → IsRunningAt c v id [] monitor → RunsOn c id 0 0 0 v a a x x monitor
+run_begins {c = c} {a = a} {x = x} goes = record {
   pieces = [];
   output = [];
   reported = given_none a;
@@ -113,10 +115,10 @@ run_begins {c = c} a x goes = record {
 }
 
 -- The limit of turns was reached.
-pub out_of_turns : {c : ConfigValues} {id turns read messages : ℕ} {v : ServerValue} (a b : DeviceTrace)
-    (x y : Option (List ℕ)) (monitor : List AcceptedCall → Type 0) → RunsOn c id turns read messages v a b x y monitor
+pub out_of_turns : {c : ConfigValues} {id turns read messages : ℕ} {v : ServerValue} {a b : DeviceTrace}
+    {x y : Option (List ℕ)} {monitor : OnCalls} → RunsOn c id turns read messages v a b x y monitor
     → turns ≡ c.turns → Ran c (stdio_output c []) a b x y monitor (Err Turns)
-out_of_turns {c = c} {v = v} a b x y monitor so_far all = (
+out_of_turns so_far all = (
   so_far.pieces,
   so_far.output,
   so_far.reported,
@@ -126,14 +128,28 @@ out_of_turns {c = c} {v = v} a b x y monitor so_far all = (
     so_far.counted ∙ all,
     record { goes_on = record { given = so_far.given; no_stop = so_far.goes.going }; written = so_far.text },
   ),
-  rw so_far.text (running_reported c v (concat so_far.pieces) monitor so_far.goes.is_at so_far.goes.going),
+  rw so_far.text (running_reported so_far.goes.is_at so_far.goes.going),
 )
+
+-- The monitor received no call since it received these.
+passed_on : {c : ConfigValues} {v : ServerValue} {bytes : List ℕ} {monitor later : OnCalls}
+    → ((calls : List AcceptedCall) → monitor calls → later calls) → IsAtBytes c v bytes monitor
+    → IsAtBytes c v bytes later
+passed_on passed at = record {
+  config = at.config;
+  events = at.events;
+  shows = at.shows;
+  world = at.world;
+  spelled = at.spelled;
+  transfers = at.transfers;
+  reports = passed at.events at.reports;
+}
 
 -- One more turn. `b` and `y` are the records of the devices before it; `d` and `z` are those after it. `earlier` states
 -- the calls that the monitor received before it, and `monitor` those after it.
-module _ (c : ConfigValues) (id turns read messages : ℕ) (v after : ServerValue) (a b d : DeviceTrace)
-    (x y z : Option (List ℕ)) (earlier monitor : List AcceptedCall → Type 0)
-    (so_far : RunsOn c id turns read messages v a b x y earlier) where
+module _ {c : ConfigValues} {id turns read messages : ℕ} {v : ServerValue} {a b : DeviceTrace} {x y : Option (List ℕ)}
+    {earlier : OnCalls} (so_far : RunsOn c id turns read messages v a b x y earlier)
+    (after : ServerValue) (d : DeviceTrace) (z : Option (List ℕ)) (monitor : OnCalls) where
   abbrev bytes : List ℕ
   bytes = concat so_far.pieces
 
@@ -147,14 +163,21 @@ module _ (c : ConfigValues) (id turns read messages : ℕ) (v after : ServerValu
   counted_more : (piece : List ℕ) → length (longer piece) ≡ turns + 1
   counted_more piece = omega (arith, length-append so_far.pieces (piece ∷ []), so_far.counted)
 
+  read_more : (piece : List ℕ) {more : ℕ} → more ≡ length piece → read + more ≡ length (concat (longer piece))
+  read_more piece is = rw (longer_bytes piece, length-append) (omega (arith, so_far.read_is, is))
+
+  messages_more : (piece : List ℕ) (more : ℕ)
+      → (outcome c (bytes ++ piece)).messages ≡ (outcome c bytes).messages + more
+      → messages + more ≡ (outcome c (concat (longer piece))).messages
+  messages_more piece more is = rw (longer_bytes piece) (omega (arith, so_far.messages_are, is))
+
   pieces_go_on : GoesOn c so_far.pieces
   pieces_go_on = record { given = so_far.given; no_stop = so_far.goes.going }
 
   -- The output so far, and more of it.
   more_text : {text : List ℕ} (more : List ℕ) → text ≡ stdio_output c bytes ++ more
       → stdio_output c [] ++ (so_far.output ++ more) ≡ text
-  more_text more is =
-      sym (append_assoc (stdio_output c []) so_far.output more) ∙ ap (λ (o : List ℕ). o ++ more) so_far.text ∙ sym is
+  more_text more is = rw (← append_assoc, so_far.text, is) refl
 
   said_more : (piece more : List ℕ) → Says c bytes piece more
       → stdio_output c [] ++ (so_far.output ++ more) ≡ stdio_output c (concat (longer piece))
@@ -175,9 +198,10 @@ module _ (c : ConfigValues) (id turns read messages : ℕ) (v after : ServerValu
     reported,
   )
 
-  pub next_turn : (t : Turn) → IsTurn c bytes after (HasGiven b d) (AddsBytes y z) monitor (Ok t) → t.stop ≡ None
+  pub next_turn : (between : OnCalls) → ((calls : List AcceptedCall) → between calls → monitor calls)
+      → (t : Turn) → IsTurn c bytes after (HasGiven b d) (AddsBytes y z) between (Ok t) → t.stop ≡ None
       → RunsOn c id (turns + 1) (read + t.read) (messages + t.messages) after a d x z monitor
-  next_turn t did none =
+  next_turn between passed t did none =
       elim did [
         | inl end ↦ absurd cc
         | inr did ↦ (
@@ -194,22 +218,11 @@ module _ (c : ConfigValues) (id turns read messages : ℕ) (v after : ServerValu
               goes = rw (longer_bytes piece) (record {
                 number = so_far.goes.number;
                 ranges = so_far.goes.ranges;
-                is_at = whole.is_at;
+                is_at = passed_on passed whole.is_at;
                 going = sym did.reason ∙ none;
               });
-              read_is = omega (
-                arith,
-                so_far.read_is,
-                did.read,
-                ap (λ (s : List ℕ). length s) (longer_bytes piece),
-                length-append bytes piece,
-              );
-              messages_are = omega (
-                arith,
-                so_far.messages_are,
-                whole.counted,
-                ap (λ (s : List ℕ). (outcome c s).messages) (longer_bytes piece),
-              );
+              read_is = read_more piece did.read;
+              messages_are = messages_more piece _ whole.counted;
               text = said_more piece whole.text whole.says;
             })
       ]
@@ -233,36 +246,35 @@ module _ (c : ConfigValues) (id turns read messages : ℕ) (v after : ServerValu
         within = omega (arith, counted_more piece, lt);
         goes_on = pieces_go_on;
         ended = rw (longer_bytes piece) ends;
-        read = omega (
-          arith,
-          so_far.read_is,
-          read_is,
-          ap (λ (s : List ℕ). length s) (longer_bytes piece),
-          length-append bytes piece,
-        );
-        messages = omega (
-          arith,
-          so_far.messages_are,
-          counted,
-          ap (λ (s : List ℕ). (outcome c s).messages) (longer_bytes piece),
-        );
+        read = read_more piece read_is;
+        messages = messages_more piece _ counted;
         written = said_more piece text says;
       })
       (rw (said_more piece text says, longer_bytes piece) reported)
 
-  pub run_ends_at_turn : (t : Turn) (why : Reason) → turns < c.turns
-      → IsTurn c bytes after (HasGiven b d) (AddsBytes y z) monitor (Ok t) → t.stop ≡ Some why
+  pub run_ends_at_turn : (between : OnCalls)
+      → ((calls : List AcceptedCall) → between calls → monitor calls) → (t : Turn) (why : Reason) → turns < c.turns
+      → IsTurn c bytes after (HasGiven b d) (AddsBytes y z) between (Ok t) → t.stop ≡ Some why
       → Ran c (stdio_output c []) a d x z monitor (Ok (report_of t why))
-  run_ends_at_turn t why lt did stops =
+  run_ends_at_turn between passed t why lt did stops =
       elim did [
-        | inl end ↦
+        | inl end ↦ (
+            let told = end.reported in
             ran_whole t why [] [] lt end.given (omega arith) end.written end.read
             (rw append-nil (omega (arith, end.messages))) (simp append-nil)
-            (rw (append-nil, so_far.goes.going) (refl, cc)) (rw (append-nil, so_far.goes.going) end.reported)
-        | inr did ↦
+            (rw (append-nil, so_far.goes.going) (refl, cc)) (rw (append-nil, so_far.goes.going) (record {
+              server = told.server;
+              config = told.config;
+              before = told.before;
+              transfers = told.transfers;
+              shows = told.shows;
+              monitor_reports = passed _ told.monitor_reports;
+            })))
+        | inr did ↦ (
+            let over : (outcome c (bytes ++ did.piece)).stop ≡ Some why = sym did.reason ∙ stops in
             ran_whole t why did.piece did.served.text lt did.has.given did.has.few did.served.written did.read
-            did.served.counted did.served.says (rw (sym did.reason ∙ stops) refl)
-            (rw (sym did.reason ∙ stops) (stopped_reported c after (bytes ++ did.piece) monitor did.served.is_at))
+            did.served.counted did.served.says (rw over refl)
+            (rw over (stopped_reported (passed_on passed did.served.is_at))))
       ]
 
   -- ---- an error ends the run in this turn
@@ -317,7 +329,7 @@ module _ (c : ConfigValues) (id turns read messages : ℕ) (v after : ServerValu
   faulted Turns lt t = absurd t
 
 -- A run after the server's CSM was written.
-pub greeted : (c : ConfigValues) (a d : DeviceTrace) (x y z : Option (List ℕ)) (monitor : List AcceptedCall → Type 0)
+pub greeted : (c : ConfigValues) (a d : DeviceTrace) (x y z : Option (List ℕ)) (monitor : OnCalls)
     (result : Result Report IoFault) → AddsBytes x y (stdio_output c [])
     → Ran c (stdio_output c []) a d y z monitor result → Ran c [] a d x z monitor result
 greeted c a d x y z monitor result wrote ran = (
@@ -346,7 +358,7 @@ pub record Opens (c : ConfigValues) (new v : ServerValue) (id : ℕ) : Type 0 wh
   pub ranges : AreInRange new.config.limits
   pub shows : (events : List AcceptedCall) → Shows new events → Shows v (events ++ Opened id ∷ [])
 
-module _ (c : ConfigValues) (new v : ServerValue) (id : ℕ) (opens : Opens c new v id) (a m : Following)
+module _ {c : ConfigValues} {new v : ServerValue} {id : ℕ} (opens : Opens c new v id) (a m : Following)
     (reported : FollowsMore a m (Opened id ∷ [])) where
   number : id ≡ only_id c
   number = rw opens.new_is at opens.id_is
@@ -358,10 +370,12 @@ module _ (c : ConfigValues) (new v : ServerValue) (id : ℕ) (opens : Opens c ne
       let world_is = world_step c [] (Opened n) (world.Opened n) refl
       ∙ ap (λ (w : World). step c.limits w (world.Opened n)) (world_first c) in
       record {
-        config = rw (opens.v_is, opens.new_is) refl;
-        events = Opened n ∷ [];
-        shows = rw number at (opens.shows [] opens.begins);
-        there = rw world_is (opened_alone c);
+        from = record {
+          config = rw (opens.v_is, opens.new_is) refl;
+          events = Opened n ∷ [];
+          shows = rw number at (opens.shows [] opens.begins);
+          there = rw world_is (opened_alone c);
+        };
         flushes = rw world_is (sym (world_for_none c));
         spelled = nothing_yet c;
         transfers = transfers_opened c n;
@@ -372,8 +386,8 @@ module _ (c : ConfigValues) (new v : ServerValue) (id : ℕ) (opens : Opens c ne
   pub goes_at_first : (k : Following) {after : ServerValue} (wrote : List ℕ → Type 0)
       → IsReportedFlush id v after wrote (FollowsMore m k)
       → IsRunningAt c after id [] (FollowsMore a k) × wrote (stdio_output c [])
-  goes_at_first k {after = after} wrote did =
-      let now = flush_is_at c v [] a m k opening_leads after wrote (rw number at did) in (
+  goes_at_first k wrote did =
+      let now = flush_is_at a m k opening_leads (rw number at did) in (
         record {
           number = number;
           ranges = rw opens.new_is at opens.ranges;
@@ -387,7 +401,7 @@ module _ (c : ConfigValues) (new v : ServerValue) (id : ℕ) (opens : Opens c ne
   pub cut_at_first : (k : Following) (b : DeviceTrace) (x z : Option (List ℕ))
       → IsCutFlush id v (AddsBytes x z) (FollowsMore m k) → Ran c [] b b x z (FollowsMore a k) (Err Write)
   cut_at_first k b x z did =
-      let cut = cut_flush_leads c v [] a m k opening_leads x z (rw number at did) in (
+      let cut = cut_flush_leads a m k opening_leads (rw number at did) in (
         [],
         cut.part,
         given_none b,
@@ -400,12 +414,12 @@ module _ (c : ConfigValues) (new v : ServerValue) (id : ℕ) (opens : Opens c ne
 -- ---- the end of input
 
 -- The connection processes messages, so the end of input stops it, and pending entries are discarded.
-pub end_stops : (c : ConfigValues) {v : ServerValue} (v1 : ServerValue) {id : ℕ} (bytes : List ℕ)
-    {monitor : List AcceptedCall → Type 0} → IsRunningAt c v id bytes monitor → v1.config ≡ v.config
+pub end_stops : {c : ConfigValues} {v v1 : ServerValue} {id : ℕ} {bytes : List ℕ}
+    {monitor : OnCalls} → IsRunningAt c v id bytes monitor → v1.config ≡ v.config
     → ((events : List AcceptedCall) → Shows v events → Shows v1 (events ++ Ended id ∷ []))
     → stop_on (session_of id v1.sessions) ≡ Some (end_reason (is_cut (stream_of c bytes).rest))
 unfolding steps_by side_ended
-end_stops c v1 bytes goes config shows =
+end_stops {c = c} {v1 = v1} {bytes = bytes} goes config shows =
     let n : ℕ = only_id c in
     let es : List AcceptedCall = goes.is_at.events in
     let w : World = world_after c es in
@@ -424,74 +438,60 @@ end_stops c v1 bytes goes config shows =
     ∙ ap (λ (s : Stream × ℕ). Some (end_reason (is_cut s.0.rest))) (goes.is_at.spelled goes.going))
 
 -- The monitor received the end of input after all other calls.
-pub end_reported : (c : ConfigValues) {v : ServerValue} (v1 : ServerValue) {id : ℕ} (bytes : List ℕ) (a m k : Following)
+pub end_reported : {c : ConfigValues} {v v1 : ServerValue} {id : ℕ} {bytes : List ℕ} (a m k : Following)
     → IsRunningAt c v id bytes (FollowsMore a m) → v1.config ≡ v.config
     → ((events : List AcceptedCall) → Shows v events → Shows v1 (events ++ Ended id ∷ []))
     → FollowsMore m k (Ended id ∷ []) → HasReportedEnd c (FollowsMore a k) bytes (length (stdio_output c bytes))
-end_reported c v1 bytes a m k goes config shows reported =
-    let es : List AcceptedCall = goes.is_at.events in
-    record {
-      server = v1;
-      config = config ∙ goes.is_at.config;
-      before = es;
-      transfers = whole_transfers c goes.is_at.transfers goes.going;
-      shows = rw goes.number at (shows es goes.is_at.shows);
-      monitor_reports = followed_then a m k es (Ended (only_id c) ∷ []) goes.is_at.reports (rw goes.number at reported);
-    }
+end_reported a m k goes config shows reported = record {
+  server = _;
+  config = config ∙ goes.is_at.config;
+  before = goes.is_at.events;
+  transfers = whole_transfers goes.is_at.transfers goes.going;
+  shows = rw goes.number at (shows _ goes.is_at.shows);
+  monitor_reports = followed_then a m k _ _ goes.is_at.reports (rw goes.number at reported);
+}
 
 -- The connection exists.
-pub not_there : {c : ConfigValues} {v : ServerValue} {id : ℕ} (bytes : List ℕ) (a m : Following)
+pub not_there : {c : ConfigValues} {v : ServerValue} {id : ℕ} {bytes : List ℕ} (a m : Following)
     → IsRunningAt c v id bytes (FollowsMore a m) → false ≡ is_there (session_of id v.sessions) → ⊥
-not_there {c = c} {v = v} {id = id} bytes a m goes none =
-    let bad : false ≡ true = none ∙ ap is_there (session_going c v id bytes a m goes).1 in
-    cc
+not_there a m goes none = let bad : false ≡ true = rw (session_going a m goes).1 at none in cc
 
 -- ---- the end of a turn
 
 -- A monitor received no further call.
-followed_stays : (a b d : Following) (xs : List AcceptedCall) → FollowsMore a b xs
-    → FollowsMore b d [] → FollowsMore a d xs
-followed_stays a b d xs reported more = rw append-nil at (followed_then a b d xs [] reported more)
+pub followed_stays : (a b d : Following) → FollowsMore b d [] → (xs : List AcceptedCall) → FollowsMore a b xs
+    → FollowsMore a d xs
+followed_stays a b d more xs reported = rw append-nil at (followed_then a b d xs [] reported more)
 
--- A monitor received the end of a turn.
-pub turn_passed : (c : ConfigValues) (bytes : List ℕ) (after : ServerValue) (gave : List (List ℕ) → Type 0)
-    (wrote : List ℕ → Type 0) (a b d : Following) (t : Turn)
-    → IsTurn c bytes after gave wrote (FollowsMore a b) (Ok t) → FollowsMore b d []
-    → IsTurn c bytes after gave wrote (FollowsMore a d) (Ok t)
-turn_passed c front after gave wrote a b d t (inl e) more = inl (record {
-  given = e.given;
-  written = e.written;
-  read = e.read;
-  messages = e.messages;
-  reason = e.reason;
-  reported = record {
-    server = e.reported.server;
-    config = e.reported.config;
-    before = e.reported.before;
-    transfers = e.reported.transfers;
-    shows = e.reported.shows;
-    monitor_reports = followed_stays a b d (e.reported.before ++ Ended (only_id c) ∷ []) e.reported.monitor_reports
-        more;
-  };
-})
-turn_passed c front after gave wrote a b d t (inr p) more = inr (record {
-  piece = p.piece;
-  has = p.has;
-  served = record {
-    is_at = record {
-      config = p.served.is_at.config;
-      events = p.served.is_at.events;
-      shows = p.served.is_at.shows;
-      world = p.served.is_at.world;
-      spelled = p.served.is_at.spelled;
-      transfers = p.served.is_at.transfers;
-      reports = followed_stays a b d p.served.is_at.events p.served.is_at.reports more;
-    };
-    text = p.served.text;
-    says = p.served.says;
-    written = p.served.written;
-    counted = p.served.counted;
-  };
-  read = p.read;
-  reason = p.reason;
-})
+-- ---- no byte is left
+
+module _ (c : ConfigValues) where
+  -- The output defined for these bytes is everything that the connection queued for them, and none of it is still
+  -- queued.
+  pub all_written : {bytes output : List ℕ} → output ≡ stdio_output c bytes → LeavesNothing c bytes output
+  all_written {bytes = bytes} whole =
+      let all = world_for_written c bytes in
+      record {
+        side = all.side;
+        there = all.there;
+        none_waits = all.waits;
+        written = whole ∙ ap (λ (o : Outcome). o.output) (outcome_there c bytes all.side all.there);
+      }
+
+  -- A run leaves no byte queued, unless a write failed.
+  pub run_leaves_nothing : (pieces : List (List ℕ)) (output : List ℕ) (result : Result Report IoFault)
+      → IsStdioRun c pieces output result → LeavesNothingWaiting c pieces output result
+  run_leaves_nothing pieces output (Ok report) run = all_written run.written
+  run_leaves_nothing pieces output (Err Read) run = all_written run.1.written
+  run_leaves_nothing pieces output (Err Turns) run = all_written run.1.written
+  run_leaves_nothing pieces output (Err Write) run = tt
+  run_leaves_nothing pieces output (Err Memory) run = elim run [
+    | inl none ↦ inl none
+    | inr refused ↦
+        inr (record {
+          taken = concat refused.before ++ refused.front;
+          others = refused.last ∷ refused.later;
+          all = rw (refused.all, concat-append, append-nil, append_assoc) refl;
+          leaves = all_written refused.written;
+        })
+  ]

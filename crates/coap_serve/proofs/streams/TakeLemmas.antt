@@ -1,17 +1,18 @@
 -- A call of `take` in a run and the flush after it: together they write the output defined for the bytes accepted.
 use Rattle.std.proofs.Common.{◌≡◌, ◌≢◌, ◌⊎◌, ℕ, suc, ◌+◌, ◌<◌, ◌≤◌, Bool, true, cond, List, [], ◌∷◌, ◌++◌, length, take}
-use Rattle.std.proofs.Common.{Option, Some, None, refl, sym, ap, subst, ◌∙◌, append_assoc, arith, inl, inr}
-use Rattle.std.proofs.lemmas.Bool.{le-leb}
-use Rattle.std.proofs.lemmas.List.{append-nil, length-append}
+use Rattle.std.proofs.Common.{Option, Some, None, refl, sym, ap, subst, ◌∙◌, append_assoc, arith, inl, inr, drop, false}
+use Rattle.std.proofs.Common.{◌==◌}
+use Rattle.std.proofs.lemmas.Bool.{le-leb, eqb-true, eqb-false}
+use Rattle.std.proofs.lemmas.List.{append-nil, length-append, take-append-drop, nil_from_length}
 use Rattle.coap_serve.specs.Prelude.{Stream, split_on, LimitValues, ConfigValues, SessionValue, ServerValue, session_of}
 use Rattle.coap_serve.specs.Prelude.{server_taken, stop_on, RefusesPieceOn, waiting_at, more_at, flush_turns}
-use Rattle.coap_serve.specs.Prelude.{IsReportedFlush, IsCutFlush, calls_of_flush, Taken, AddsBytes, FollowsMore}
-use Rattle.coap_serve.specs.Prelude.{Following, HasReported, HasReportedCut, waiting_of, AreTransfers, only_id}
-use Rattle.coap_serve.specs.Prelude.{stream_of, flushed, flushed_after, world_for, Outcome, outcome_on, outcome}
-use Rattle.coap_serve.specs.Prelude.{stdio_output, IsLastByte, IsAtBytes, IsRunningAt, Says, IsWhole, IsCut, Connection}
-use Rattle.coap_serve.specs.Prelude.{has_room, handles, World, Step, side_of, step, AcceptedCall, Took, stream_on}
-use Rattle.coap_serve.specs.Prelude.{beyond, steps_by, world_after, takes, size_on, Shows, session_shown, handled_in}
-use Rattle.coap_serve.specs.Prelude.{count_of}
+use Rattle.coap_serve.specs.Prelude.{IsReportedFlush, IsCutFlush, Taken, AddsBytes, FollowsMore, Following, HasReported}
+use Rattle.coap_serve.specs.Prelude.{HasReportedCut, waiting_of, AreTransfers, only_id, stream_of, flushed}
+use Rattle.coap_serve.specs.Prelude.{flushed_after, world_for, Outcome, outcome_on, outcome, stdio_output, IsLastByte}
+use Rattle.coap_serve.specs.Prelude.{IsAtBytes, IsRunningAt, Says, IsWhole, IsCut, Connection, has_room, handles, World}
+use Rattle.coap_serve.specs.Prelude.{Step, side_of, step, AcceptedCall, Took, stream_on, beyond, steps_by, world_after}
+use Rattle.coap_serve.specs.Prelude.{takes, size_on, Shows, session_shown, handled_in, count_of, Reason, IsNotTaken}
+use Rattle.coap_serve.specs.Prelude.{IsRefused, ShowsRefused}
 use Rattle.coap_wire.proofs.StreamSteps.{split_goes_on}
 use Rattle.coap_frame.proofs.FrontLaws.{some_in_front}
 use Rattle.coap_model.specs.declared.answers.Handled.{Handled}
@@ -25,11 +26,14 @@ use Rattle.coap_server_engine.proofs.world.HandledLaws.{messages_counted, one_st
 use Rattle.coap_model.proofs.world.GrowLaws.{SideGrows, front_written, same_front, none_waits_all_written, took_grows}
 use Rattle.coap_model.proofs.streams.FlushLaws.{from_there_on, quiet_flush, flush_leaves}
 use Rattle.coap_model.proofs.streams.OutputLaws.{world_for_written, world_goes_on, outcome_there, takes_unless_stopped}
-use Rattle.coap_model.proofs.streams.OutputLaws.{spelled_more, steps_taken}
-use Rattle.coap_serve.proofs.streams.CallLemmas.{whole_transfers, transfers_taken}
-use Rattle.coap_serve.proofs.streams.FlushShown.{LeadsTo, turns_said, turns_reported, flush_is_at}
+use Rattle.coap_model.proofs.streams.OutputLaws.{spelled_more, steps_taken, output_grows, stopped_output}
+use Rattle.coap_model.proofs.streams.OutputLaws.{stopped_outcome}
+use Rattle.coap_serve.proofs.streams.CallLemmas.{whole_transfers, transfers_taken, OnCalls, LeadsTo, turns_said}
+use Rattle.coap_serve.proofs.streams.CallLemmas.{turns_reported, flush_is_at}
 use Rattle.coap_server_engine.proofs.scripting.ShownLemmas.{config_stays}
 use Rattle.coap_server_engine.proofs.scripting.FollowLemmas.{followed_then}
+use Rattle.coap_model.specs.declared.answers.TakeFault.TheVariants as taking
+use Rattle.coap_io.proofs.streams.DeviceLemmas.{bytes_none, bytes_then}
 
 -- ---- more iterations write more
 
@@ -57,7 +61,7 @@ further_text id v turns = refl
 -- A write failed. The outlet recorded a proper prefix of the output that was still to be written for the bytes. The
 -- monitor received the calls before this write.
 pub record CutLeads (c : ConfigValues) (s : Connection) (bytes : List ℕ) (x y : Option (List ℕ))
-    (monitor : List AcceptedCall → Type 0) : Type 0 where
+    (monitor : OnCalls) : Type 0 where
   pub part : List ℕ
   pub missing : List ℕ
   pub some : missing ≢ []
@@ -65,23 +69,21 @@ pub record CutLeads (c : ConfigValues) (s : Connection) (bytes : List ℕ) (x y 
   pub written : AddsBytes x y part
   pub reported : HasReportedCut c monitor bytes (length (front_written s) + length part)
 
-pub cut_flush_leads : (c : ConfigValues) (v : ServerValue) {s : Connection} (bytes : List ℕ) (a m n : Following)
-    → LeadsTo c v s bytes (FollowsMore a m) → (x y : Option (List ℕ))
+pub cut_flush_leads : {c : ConfigValues} {v : ServerValue} {s : Connection} {bytes : List ℕ} (a m n : Following)
+    → LeadsTo c v s bytes (FollowsMore a m) → {x y : Option (List ℕ)}
     → IsCutFlush (only_id c) v (AddsBytes x y) (FollowsMore m n) → CutLeads c s bytes x y (FollowsMore a n)
-cut_flush_leads c v {s = s} bytes a m n leads x y did =
+cut_flush_leads {c = c} {v = v} {s = s} {bytes = bytes} a m n leads did =
     let id : ℕ = only_id c in
-    let all : ℕ = suc (more_at id v) in
     let text : List ℕ = (flush_turns did.turns id v).text in
-    let more = text_grows id v (suc did.turns) all (omega (arith, did.within)) in
-    let calls : List AcceptedCall = calls_of_flush did.turns id v in
-    let reported = turns_reported c v s bytes (FollowsMore a m) leads did.turns (FollowsMore a n)
-    (followed_then a m n leads.events calls leads.reports did.reports) in
+    let more = text_grows id v (suc did.turns) (suc (more_at id v)) (omega (arith, did.within)) in
+    let reported =
+    turns_reported leads did.turns (FollowsMore a n) (followed_then _ _ _ _ _ leads.reports did.reports) in
     record {
       part = text ++ did.part;
       missing = did.missing ++ more.0;
       some = λ none. did.some (front_of_nothing did.missing more.0 none);
       says = cc (
-        turns_said c v s bytes (FollowsMore a m) leads,
+        turns_said leads,
         more.1,
         further_text id v did.turns,
         did.all,
@@ -104,22 +106,18 @@ cut_flush_leads c v {s = s} bytes a m n leads x y did =
     }
 
 -- The messages processed before the flush.
-flush_counts : (c : ConfigValues) (v : ServerValue) (s : Connection) (bytes : List ℕ)
-    {monitor : List AcceptedCall → Type 0} → LeadsTo c v s bytes monitor
-    → (outcome c bytes).messages ≡ length s.history.handled
-flush_counts c v s bytes leads =
+flush_counts : {c : ConfigValues} {v : ServerValue} {s : Connection} {bytes : List ℕ}
+    {monitor : OnCalls} → LeadsTo c v s bytes monitor → (outcome c bytes).messages ≡ length s.history.handled
+flush_counts {c = c} {s = s} {bytes = bytes} leads =
     let left = flush_leaves c.limits (only_id c) (world_after c leads.events) s leads.there in
-    let is_there = ap (λ (w : World). side_of (only_id c) w.sides) (sym leads.flushes) ∙ left.0.there in
-    ap (λ (o : Outcome). o.messages) (outcome_there c bytes left.0.side is_there) ∙ ap length left.0.handled
+    rw (outcome_there c bytes left.0.side (rw (← leads.flushes) left.0.there)) (ap length left.0.handled)
 
 -- The server returns the reason for which the bytes stop its connection.
-pub stop_reported : (c : ConfigValues) (v : ServerValue) {bytes : List ℕ} {monitor : List AcceptedCall → Type 0}
+pub stop_reported : {c : ConfigValues} {v : ServerValue} {bytes : List ℕ} {monitor : OnCalls}
     → IsAtBytes c v bytes monitor → stop_on (session_of (only_id c) v.sessions) ≡ (outcome c bytes).stop
-stop_reported c v {bytes = bytes} is_at =
+stop_reported {c = c} {v = v} {bytes = bytes} is_at =
     let all = world_for_written c bytes in
-    let is_there : side_of (only_id c) (world_after v.config is_at.events).sides ≡ Some all.side =
-    rw (is_at.config, is_at.world) all.there in
-    ap stop_on (side_there v is_at.events (only_id c) all.side is_at.shows is_there)
+    ap stop_on (side_there v is_at.events (only_id c) all.side is_at.shows (rw (is_at.config, is_at.world) all.there))
     ∙ ap (λ (o : Outcome). o.stop) (sym (outcome_there c bytes all.side all.there))
 
 -- ---- some bytes are accepted
@@ -135,7 +133,7 @@ pub record FrontRefused (c : ConfigValues) (bytes piece : List ℕ) (n : ℕ) : 
 
 -- A prefix of a chunk was processed, and the server returns whether it stops the connection.
 pub record FrontServed (c : ConfigValues) (id : ℕ) (bytes front : List ℕ) (after : ServerValue)
-    (wrote : List ℕ → Type 0) (monitor : List AcceptedCall → Type 0) (messages : ℕ) : Type 0 where
+    (wrote : List ℕ → Type 0) (monitor : OnCalls) (messages : ℕ) : Type 0 where
   pub whole : IsWhole c bytes front after wrote monitor messages
   pub stop : stop_on (session_of id after.sessions) ≡ (outcome c (bytes ++ front)).stop
 
@@ -147,7 +145,7 @@ pub record WasTaken (v after : ServerValue) (id : ℕ) (piece : List ℕ) (t : T
       → t.handled ≡ handled_in v.config events (Took id (take t.bytes piece)) id
   pub shows : (events : List AcceptedCall) → Shows v events → Shows after (events ++ Took id (take t.bytes piece) ∷ [])
 
-module _ (v : ServerValue) (bytes : List ℕ) (a m : Following)
+module _ {v : ServerValue} {bytes : List ℕ} (a m : Following)
     (goes : IsRunningAt v.config v (only_id v.config) bytes (FollowsMore a m)) where
   abbrev c : ConfigValues
   c = v.config
@@ -189,16 +187,16 @@ module _ (v : ServerValue) (bytes : List ℕ) (a m : Following)
   session_was = side_there v es id before goes.is_at.shows was_there
 
   transfers_before : AreTransfers c id bytes (length (stdio_output c bytes)) es
-  transfers_before = whole_transfers c goes.is_at.transfers goes.going
+  transfers_before = whole_transfers goes.is_at.transfers goes.going
 
   waits_before : waiting_of (side_of id (world_after c es).sides) ≡ []
   waits_before = ap waiting_of was_there ∙ (world_for_written c bytes).waits
 
   -- ---- an allocation fails
 
-  front_refused_by : (piece : List ℕ) (n : ℕ) → RefusesLast v es id piece n → FrontRefused c bytes piece n
+  front_refused_by : {piece : List ℕ} {n : ℕ} → RefusesLast v es id piece n → FrontRefused c bytes piece n
   unfolding outcome flushed_after
-  front_refused_by piece n last =
+  front_refused_by {piece = piece} {n = n} last =
       let front : List ℕ = take n piece in
       let spelled = goes.is_at.spelled goes.going in
       let stream_is = ap (λ (s : Stream × ℕ). s.0) spelled in
@@ -225,34 +223,35 @@ module _ (v : ServerValue) (bytes : List ℕ) (a m : Following)
       }
 
   -- The report of this call, which accepted the first `n` bytes.
-  refused_reported : (piece : List ℕ) (n : ℕ) (v1 : ServerValue) (k : Following) → FrontRefused c bytes piece n
-      → v1 ≡ server_taken v id (take n piece) → Shows v1 (es ++ Took id (take n piece) ∷ [])
+  refused_reported : {piece : List ℕ} {n : ℕ} {v1 : ServerValue} (k : Following) → FrontRefused c bytes piece n
+      → v1 ≡ server_taken v id (take n piece)
+      → ((events : List AcceptedCall) → Shows v events → Shows v1 (events ++ Took id (take n piece) ∷ []))
       → FollowsMore m k (Took id (take n piece) ∷ [])
       → HasReported c (FollowsMore a k) (bytes ++ take n piece) (length (stdio_output c (bytes ++ take n piece)))
-  refused_reported piece n v1 k refused is shows reported = record {
-    server = v1;
+  refused_reported {piece = piece} {n = n} k refused is shows reported = record {
+    server = _;
     config = ap (λ (u : ServerValue). u.config) is ∙ config_stays v id (take n piece);
-    events = es ++ Took id (take n piece) ∷ [];
-    shows = shows;
+    events = _;
+    shows = shows es goes.is_at.shows;
     transfers = rw (
       refused.says,
       append-nil (stdio_output c bytes),
     ) (transfers_taken c id (take n piece) es waits_before transfers_before);
-    monitor_reports = followed_then a m k es (Took id (take n piece) ∷ []) goes.is_at.reports reported;
+    monitor_reports = followed_then a m k es _ goes.is_at.reports reported;
   }
 
   -- ---- the call of take
 
-  front_some_by : (piece : List ℕ) (v1 : ServerValue) (t : Taken) → WasTaken v v1 id piece t
-      → 0 < length piece → 1 ≤ t.bytes
-  front_some_by piece v1 t took some =
+  front_some_by : {piece : List ℕ} {v1 : ServerValue} {t : Taken} → WasTaken v v1 id piece t → 0 < length piece
+      → 1 ≤ t.bytes
+  front_some_by {piece = piece} took some =
       let unfinished = rest_unfinished M id es (handling_goes_on c es id before reached was_there handling) in
       let front = some_in_front (size_on M id es) (stream_on M id es).rest piece unfinished some in
       let count = takes_there c es id piece before was_there
       ∙ ap (λ (b : Bool). cond b (front_of (size_on M id es) (stream_on M id es).rest piece) 0) handling in
       omega (arith, front, count, took.takes_so es goes.is_at.shows)
 
-  module _ (piece : List ℕ) (v1 : ServerValue) (t : Taken) (took : WasTaken v v1 id piece t) (k : Following)
+  module _ {piece : List ℕ} {v1 : ServerValue} {t : Taken} (took : WasTaken v v1 id piece t) (k : Following)
       (reported : FollowsMore m k (Took id (take t.bytes piece) ∷ [])) where
     abbrev T : List ℕ
     T = take t.bytes piece
@@ -294,22 +293,24 @@ module _ (v : ServerValue) (bytes : List ℕ) (a m : Following)
 
     leads : LeadsTo c v1 grown.0 (bytes ++ T) (FollowsMore a k)
     leads = record {
-      config = ap (λ (u : ServerValue). u.config) took.after_is ∙ config_stays v id piece;
-      events = es ++ Took id T ∷ [];
-      shows = took.shows es goes.is_at.shows;
-      there = grown.1;
+      from = record {
+        config = ap (λ (u : ServerValue). u.config) took.after_is ∙ config_stays v id piece;
+        events = es ++ Took id T ∷ [];
+        shows = took.shows es goes.is_at.shows;
+        there = grown.1;
+      };
       flushes = flushed_world;
       spelled = spelled_more c es bytes T (goes.is_at.spelled goes.going);
       transfers = rw said_before (transfers_taken c id T es waits_before transfers_before);
-      reports = followed_then a m k es (Took id T ∷ []) goes.is_at.reports reported;
+      reports = followed_then a m k es _ goes.is_at.reports reported;
     }
 
     -- The call and its flush did everything that is defined for the bytes accepted.
-    front_served_by : (after : ServerValue) (wrote : List ℕ → Type 0) {messages : ℕ} (n : Following)
+    front_served_by : {after : ServerValue} {wrote : List ℕ → Type 0} {messages : ℕ} (n : Following)
         → messages ≡ count_of t.handled → IsReportedFlush id v1 after wrote (FollowsMore k n)
         → FrontServed c id bytes T after wrote (FollowsMore a n) messages
-    front_served_by after wrote n counted did =
-        let now = flush_is_at c v1 (bytes ++ T) a k n leads after wrote did in
+    front_served_by n counted did =
+        let now = flush_is_at a k n leads did in
         let there = subst (λ (b : List ℕ). side_of id (world_after c (es ++ Took id b ∷ [])).sides ≡ Some grown.0)
         bytes_are grown.1 in
         let all = messages_counted c es id piece before grown.0 goes.is_at.shows.accepted was_there there in
@@ -323,21 +324,21 @@ module _ (v : ServerValue) (bytes : List ℕ) (a m : Following)
             written = now.written;
             counted = omega (
               arith,
-              flush_counts c v1 grown.0 (bytes ++ T) leads,
+              flush_counts leads,
               all,
               ap count_of reported,
               ap (λ (o : Outcome). o.messages) outcome_before,
               counted,
             );
           };
-          stop = stop_reported c after now.is_at;
+          stop = stop_reported now.is_at;
         }
 
     -- A write failed: a part of the output defined for the bytes accepted was written.
-    front_cut_by : (x y : Option (List ℕ)) (n : Following) → IsCutFlush id v1 (AddsBytes x y) (FollowsMore k n)
+    front_cut_by : (n : Following) (x y : Option (List ℕ)) → IsCutFlush id v1 (AddsBytes x y) (FollowsMore k n)
         → IsCut c bytes T (AddsBytes x y) (FollowsMore a n)
-    front_cut_by x y n did =
-        let cut = cut_flush_leads c v1 (bytes ++ T) a k n leads x y did in
+    front_cut_by n x y did =
+        let cut = cut_flush_leads a k n leads did in
         record {
           part = cut.part;
           missing = cut.missing;
@@ -349,80 +350,230 @@ module _ (v : ServerValue) (bytes : List ℕ) (a m : Following)
 
 -- ---- any name of the configuration and of the number
 
-module _ (c : ConfigValues) (v : ServerValue) (id : ℕ) (bytes : List ℕ) (monitor : List AcceptedCall → Type 0)
-    (goes : IsRunningAt c v id bytes monitor) where
-  -- A statement about the configuration and number of the server holds for any equal ones.
-  pub by_any_name : (P : ConfigValues → ℕ → Type 0)
-      → (IsRunningAt v.config v (only_id v.config) bytes monitor → P v.config (only_id v.config)) → P c id
-  by_any_name P holds =
-      subst (P c) (sym goes.number)
-      (subst (λ (k : ConfigValues). IsRunningAt k v (only_id k) bytes monitor → P k (only_id k)) goes.is_at.config
-      holds (subst (λ (n : ℕ). IsRunningAt c v n bytes monitor) goes.number goes))
-
-module _ (c : ConfigValues) (v : ServerValue) (id : ℕ) (bytes : List ℕ) (a m : Following)
+module _ {c : ConfigValues} {v : ServerValue} {id : ℕ} {bytes : List ℕ} (a m : Following)
     (goes : IsRunningAt c v id bytes (FollowsMore a m)) where
+  named : IsRunningAt v.config v (only_id v.config) bytes (FollowsMore a m)
+  named =
+      subst (λ (k : ConfigValues). IsRunningAt k v (only_id k) bytes (FollowsMore a m)) (sym goes.is_at.config)
+      (rw goes.number at goes)
+
   -- The connection exists.
   pub session_going : (s : SessionValue) × (session_of id v.sessions ≡ Some s)
-  session_going =
-      by_any_name c v id bytes (FollowsMore a m) goes (λ k n. (s : SessionValue) × (session_of n v.sessions ≡ Some s))
-      (λ so. (_, session_was v bytes a m so))
+  session_going = rw (goes.number, ← goes.is_at.config) (_, session_was a m named)
 
-module _ (c : ConfigValues) (v : ServerValue) (id : ℕ) (bytes piece : List ℕ) (a m : Following)
-    (goes : IsRunningAt c v id bytes (FollowsMore a m)) where
   pub is_not_missing : session_of id v.sessions ≡ None → ⊥
-  is_not_missing none = let there = (session_going c v id bytes a m goes).1 in cc
+  is_not_missing none = let there = session_going.1 in cc
 
-  pub front_refused : (n : ℕ) → RefusesPieceOn v piece n (session_of id v.sessions) → FrontRefused c bytes piece n
-  front_refused n =
-      by_any_name c v id bytes (FollowsMore a m) goes
-      (λ k j. RefusesPieceOn v piece n (session_of j v.sessions) → FrontRefused k bytes piece n)
-      (λ so refused. (let there = session_was v bytes a m so in front_refused_by v bytes a m so piece n
-      (refuses_last v so.is_at.events _ piece n _ so.is_at.shows there (rw there at refused))))
+  pub front_refused : {piece : List ℕ} {n : ℕ} → RefusesPieceOn v piece n (session_of id v.sessions)
+      → FrontRefused c bytes piece n
+  front_refused refused =
+      let there = session_was a m named in
+      rw (← goes.is_at.config) (front_refused_by a m named (refuses_last v named.is_at.events _ _ _ _ named.is_at.shows
+      there (rw there at (rw (goes.number, ← goes.is_at.config) at refused))))
 
   -- The monitor received the call for which an allocation failed.
-  pub front_reported : (n : ℕ) (v1 : ServerValue) (k : Following) → FrontRefused c bytes piece n
+  pub front_reported : {piece : List ℕ} {n : ℕ} {v1 : ServerValue} (k : Following) → FrontRefused c bytes piece n
       → v1 ≡ server_taken v id (take n piece)
       → ((events : List AcceptedCall) → Shows v events → Shows v1 (events ++ Took id (take n piece) ∷ []))
       → FollowsMore m k (Took id (take n piece) ∷ [])
       → HasReported c (FollowsMore a k) (bytes ++ take n piece) (length (stdio_output c (bytes ++ take n piece)))
-  front_reported n v1 k =
-      by_any_name c v id bytes (FollowsMore a m) goes
-      (λ d j. FrontRefused d bytes piece n → v1 ≡ server_taken v j (take n piece)
-      → ((events : List AcceptedCall) → Shows v events → Shows v1 (events ++ Took j (take n piece) ∷ []))
-      → FollowsMore m k (Took j (take n piece) ∷ [])
-      → HasReported d (FollowsMore a k) (bytes ++ take n piece) (length (stdio_output d (bytes ++ take n piece))))
-      (λ so refused is shows reported. refused_reported v bytes a m so piece n v1 k refused is
-      (shows so.is_at.events so.is_at.shows) reported)
+  front_reported k refused is shows reported =
+      rw (← goes.is_at.config) (refused_reported a m named k (rw (← goes.is_at.config) at refused)
+      (rw (goes.number, ← goes.is_at.config) at is) (rw (goes.number, ← goes.is_at.config) at shows)
+      (rw (goes.number, ← goes.is_at.config) at reported))
 
-  module _ (v1 : ServerValue) (t : Taken) (took : WasTaken v v1 id piece t) where
-    pub front_served : (k n : Following) {after : ServerValue} (wrote : List ℕ → Type 0) {messages : ℕ}
+  module _ {piece : List ℕ} {v1 : ServerValue} {t : Taken} (took : WasTaken v v1 id piece t) where
+    taken_so : WasTaken v v1 (only_id v.config) piece t
+    taken_so = rw (goes.number, ← goes.is_at.config) at took
+
+    pub front_served : (k n : Following) {after : ServerValue} {wrote : List ℕ → Type 0} {messages : ℕ}
         → FollowsMore m k (Took id (take t.bytes piece) ∷ []) → messages ≡ count_of t.handled
         → IsReportedFlush id v1 after wrote (FollowsMore k n)
         → FrontServed c id bytes (take t.bytes piece) after wrote (FollowsMore a n) messages
-    front_served k n {after = after} wrote {messages = messages} reported counted did =
-        by_any_name c v id bytes (FollowsMore a m) goes
-        (λ d j. WasTaken v v1 j piece t → FollowsMore m k (Took j (take t.bytes piece) ∷ [])
-        → IsReportedFlush j v1 after wrote (FollowsMore k n)
-        → FrontServed d j bytes (take t.bytes piece) after wrote (FollowsMore a n) messages)
-        (λ so taken reports. front_served_by v bytes a m so piece v1 t taken k reports after wrote n counted) took
-        reported did
+    front_served k n reported counted did =
+        rw (goes.number, ← goes.is_at.config) (front_served_by a m named taken_so k
+        (rw (goes.number, ← goes.is_at.config) at reported) n counted
+        (rw (goes.number, ← goes.is_at.config) at did))
 
     pub front_cut : (k n : Following) (x y : Option (List ℕ)) → FollowsMore m k (Took id (take t.bytes piece) ∷ [])
         → IsCutFlush id v1 (AddsBytes x y) (FollowsMore k n)
         → IsCut c bytes (take t.bytes piece) (AddsBytes x y) (FollowsMore a n)
-    front_cut k n x y =
-        by_any_name c v id bytes (FollowsMore a m) goes
-        (λ d j. WasTaken v v1 j piece t → FollowsMore m k (Took j (take t.bytes piece) ∷ [])
-        → IsCutFlush j v1 (AddsBytes x y) (FollowsMore k n)
-        → IsCut d bytes (take t.bytes piece) (AddsBytes x y) (FollowsMore a n))
-        (λ so taken reports. front_cut_by v bytes a m so piece v1 t taken k reports x y n) took
+    front_cut k n x y reported did =
+        rw (← goes.is_at.config) (front_cut_by a m named taken_so k
+        (rw (goes.number, ← goes.is_at.config) at reported) n x y (rw (goes.number, ← goes.is_at.config) at did))
 
     pub front_some : 0 < length piece → 1 ≤ t.bytes
-    front_some =
-        by_any_name c v id bytes (FollowsMore a m) goes
-        (λ d j. WasTaken v v1 j piece t → 0 < length piece → 1 ≤ t.bytes)
-        (λ so taken. front_some_by v bytes a m so piece v1 t taken) took
+    front_some = front_some_by a m named taken_so
 
 -- A call of `take` processes at most one message.
 pub handled_few : (what : Handled) → count_of what ≤ 1
 handled_few what = grind arith
+
+-- ---- a chunk, one call of `take` and one flush after the other
+
+-- A prefix of a chunk was processed and this rest is left. `x` and `y` are the records of the outlet before the chunk
+-- and now.
+pub record Serves (c : ConfigValues) (id : ℕ) (bytes piece : List ℕ) (v : ServerValue) (rest : List ℕ)
+    (x y : Option (List ℕ)) (monitor : OnCalls) (messages : ℕ) : Type 0 where
+  pub taken : List ℕ
+  pub all : piece ≡ taken ++ rest
+  pub goes : IsRunningAt c v id (bytes ++ taken) monitor
+  pub text : List ℕ
+  pub says : Says c bytes taken text
+  pub written : AddsBytes x y text
+  pub counted : (outcome c (bytes ++ taken)).messages ≡ (outcome c bytes).messages + messages
+
+pub serves_none : {c : ConfigValues} {v : ServerValue} {id : ℕ} {bytes piece : List ℕ} {x : Option (List ℕ)}
+    {monitor : OnCalls} → IsRunningAt c v id bytes monitor → Serves c id bytes piece v piece x x monitor 0
+serves_none {c = c} {bytes = bytes} {x = x} goes = record {
+  taken = [];
+  all = refl;
+  goes = rw append-nil goes;
+  text = [];
+  says = simp append-nil;
+  written = bytes_none x;
+  counted = omega (arith, ap (λ (b : List ℕ). (outcome c b).messages) (append-nil bytes));
+}
+
+module _ {c : ConfigValues} {id : ℕ} {bytes piece : List ℕ} {v : ServerValue} {rest : List ℕ} {x y : Option (List ℕ)}
+    (a m : Following) {messages : ℕ} (so_far : Serves c id bytes piece v rest x y (FollowsMore a m) messages) where
+  abbrev here : List ℕ
+  here = bytes ++ so_far.taken
+
+  -- Nothing is left.
+  pub served_all : rest ≡ [] → IsWhole c bytes piece v (AddsBytes x y) (FollowsMore a m) messages
+  served_all none =
+      rw (so_far.all, none, append-nil)
+      (record {
+        is_at = so_far.goes.is_at;
+        text = so_far.text;
+        says = so_far.says;
+        written = so_far.written;
+        counted = so_far.counted;
+      })
+
+  -- A prefix of the rest, and the bytes after it.
+  module _ (n : ℕ) where
+    split_so : piece ≡ (so_far.taken ++ take n rest) ++ drop n rest
+    split_so = rw (append_assoc, take-append-drop) so_far.all
+
+    further_bytes : bytes ++ (so_far.taken ++ take n rest) ≡ here ++ take n rest
+    further_bytes = sym (append_assoc bytes so_far.taken (take n rest))
+
+    whole_bytes : bytes ++ piece ≡ (here ++ take n rest) ++ drop n rest
+    whole_bytes = ap (λ (b : List ℕ). bytes ++ b) split_so ∙ simp append_assoc
+
+    -- The prefix was processed, and the connection processes further messages.
+    pub serves_more : {z : Option (List ℕ)} {monitor : OnCalls} {after : ServerValue} {more : ℕ}
+        → FrontServed c id here (take n rest) after (AddsBytes y z) monitor more
+        → stop_on (session_of id after.sessions) ≡ None
+        → Serves c id bytes piece after (drop n rest) x z monitor (messages + more)
+    serves_more {z = z} did going =
+        let said = did.whole in
+        record {
+          taken = so_far.taken ++ take n rest;
+          all = split_so;
+          goes = rw further_bytes (record {
+            number = so_far.goes.number;
+            ranges = so_far.goes.ranges;
+            is_at = said.is_at;
+            going = sym did.stop ∙ going;
+          });
+          text = so_far.text ++ said.text;
+          says = rw (further_bytes, said.says, so_far.says, append_assoc) refl;
+          written = bytes_then x y z so_far.text said.text so_far.written said.written;
+          counted =
+              omega (arith, said.counted, so_far.counted, ap (λ (b : List ℕ). (outcome c b).messages) further_bytes);
+        }
+
+    -- The prefix was processed, and the connection processes no further message.
+    pub serves_last : (z : Option (List ℕ)) {monitor : OnCalls} {after : ServerValue} {more : ℕ}
+        {why : Reason} → FrontServed c id here (take n rest) after (AddsBytes y z) monitor more
+        → stop_on (session_of id after.sessions) ≡ Some why
+        → IsWhole c bytes piece after (AddsBytes x z) monitor (messages + more)
+    serves_last z {why = why} did stopped =
+        let said = did.whole in
+        let of = said.is_at.transfers in
+        let over : (outcome c (here ++ take n rest)).stop ≡ Some why = sym did.stop ∙ stopped in
+        let same : outcome c (bytes ++ piece) ≡ outcome c (here ++ take n rest) =
+        rw whole_bytes (stopped_outcome c (here ++ take n rest) (drop n rest) why over) in
+        record {
+          is_at = record {
+            config = said.is_at.config;
+            events = said.is_at.events;
+            shows = said.is_at.shows;
+            world = said.is_at.world ∙ sym (rw whole_bytes (stopped_output c _ (drop n rest) why over));
+            spelled = λ none. absurd (cc (ap (λ (o : Outcome). o.stop) same));
+            transfers = record {
+              taken = of.taken;
+              later = of.later ++ drop n rest;
+              all = rw (whole_bytes, of.all) (append_assoc of.taken of.later (drop n rest));
+              whole = λ none. absurd (cc (ap (λ (o : Outcome). o.stop) same));
+              same = of.same ∙ sym same;
+              transfers = rw (ap (λ (o : Outcome). o.output) same) of.transfers;
+            };
+            reports = said.is_at.reports;
+          };
+          text = so_far.text ++ said.text;
+          says = rw (ap (λ (o : Outcome). o.output) same, said.says, so_far.says, append_assoc) refl;
+          written = bytes_then x y z so_far.text said.text so_far.written said.written;
+          counted = omega (arith, said.counted, so_far.counted, ap (λ (o : Outcome). o.messages) same);
+        }
+
+    -- The output for the prefix was not written in full.
+    pub cut_off : (z : Option (List ℕ)) {monitor : OnCalls}
+        → IsCut c here (take n rest) (AddsBytes y z) monitor → IsCut c bytes piece (AddsBytes x z) monitor
+    cut_off z did =
+        let more = output_grows c (here ++ take n rest) (drop n rest) in
+        let r = did.reported in
+        record {
+          part = so_far.text ++ did.part;
+          missing = did.missing ++ more.0;
+          some = λ none. did.some (front_of_nothing did.missing more.0 none);
+          says = rw (whole_bytes, more.1, did.says, so_far.says) (simp append_assoc);
+          written = bytes_then x y z so_far.text did.part so_far.written did.written;
+          reported = record {
+            taken = r.taken;
+            later = r.later ++ drop n rest;
+            all = rw (whole_bytes, r.all) (append_assoc r.taken r.later (drop n rest));
+            before = r.before;
+            reported = r.reported;
+            part = r.part;
+            missing = r.missing;
+            some = r.some;
+            queued = r.queued;
+            count = omega (
+              arith,
+              r.count,
+              ap length so_far.says,
+              length-append (stdio_output c bytes) so_far.text,
+              length-append so_far.text did.part,
+            );
+          };
+        }
+
+  -- An allocation failed for a message in the rest.
+  pub piece_refused : {after : ServerValue} (n : ℕ) (k : Following) → IsNotTaken v id rest (taking.Memory n) after
+      → ((events : List AcceptedCall) → Shows v events → ShowsRefused events id rest (taking.Memory n) after)
+      → FollowsMore m k (Took id (take n rest) ∷ []) → IsRefused c bytes piece (AddsBytes x y) (FollowsMore a k)
+  piece_refused n k not shows reported =
+      let last = front_refused a m so_far.goes not.0 in
+      record {
+        front = so_far.taken ++ take n rest;
+        last = last.last;
+        later = last.later;
+        all = rw (append_assoc, ← last.all) so_far.all;
+        refused = rw (further_bytes n) last.refused;
+        text = so_far.text;
+        says = rw (further_bytes n, last.says, append-nil, so_far.says) refl;
+        written = so_far.written;
+        reported = rw (further_bytes n) (front_reported a m so_far.goes k last not.1 shows reported);
+      }
+
+-- ---- results of tests
+
+pub is_filled : (xs : List ℕ) → false ≡ (length xs == 0) → 0 < length xs
+is_filled xs e = omega (arith, eqb-false (length xs) 0 (sym e))
+
+pub is_used_up : {xs : List ℕ} → true ≡ (length xs == 0) → xs ≡ []
+is_used_up {xs = xs} e = nil_from_length xs (eqb-true (length xs) 0 (sym e))

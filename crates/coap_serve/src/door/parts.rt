@@ -82,6 +82,7 @@ impl<W: Wire + Ready + Drop> Service<W> {
 
     /// Asks the application for later responses, until it has none or has given 256 of them, and gives each as
     /// `Server::respond` does. Returns `true` if the application may have more.
+    #[tactic(auto, using(crate::proofs::listener::ServingLemmas::not_requested))]
     pub(super) fn answer_later<A: Application, M: Monitor<W>>(
         &mut self,
         application: &mut A,

@@ -99,6 +99,7 @@ pub(super) struct PeerTurn {
 /// # Errors
 ///
 /// - `Memory`: an allocation failed.
+#[tactic(auto, using(crate::proofs::listener::ServingLemmas::read_served, crate::proofs::listener::SleepLemmas::beside_read, coap_server_engine::proofs::values::ServerLemmas::lies_still))]
 pub(super) fn serve_peer<W: Wire + Ready, A: Application, M: Monitor<W>>(
     server: &mut Server,
     turn: PeerTurn,

@@ -30,6 +30,7 @@ pub(super) fn release_at<W>(peers: &mut Peers<W>, at: usize, now: u64)
 }
 
 /// Drops the connection at an index, for this reason.
+#[tactic(auto, using(crate::proofs::listener::ServingLemmas::dropped_served))]
 pub(super) fn drop_at<W: Drop, A: Application, M: Monitor<W>>(
     server: &mut Server,
     peers: &mut Peers<W>,

@@ -287,6 +287,7 @@ impl<W: Wire + Ready + Drop> Service<W> {
     /// # Errors
     ///
     /// - `Memory`: an allocation failed, in this turn or in an earlier one. No later turn does anything.
+    #[tactic(auto, using(crate::proofs::listener::ServingLemmas::none_made))]
     pub fn turn<D: Door<Wire = W>, A: Application, M: Monitor<W>>(
         &mut self,
         door: &mut D,

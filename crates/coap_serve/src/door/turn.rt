@@ -120,6 +120,7 @@ impl<W: Wire + Ready + Drop> Service<W> {
     /// # Errors
     ///
     /// - `Memory`: an allocation failed.
+    #[tactic(auto, using(crate::proofs::listener::ServingLemmas::both_made))]
     fn serve_each<A: Application, M: Monitor<W>>(
         &mut self,
         application: &mut A,
@@ -155,7 +156,7 @@ impl<W: Wire + Ready + Drop> Service<W> {
     /// # Errors
     ///
     /// - `Memory`: an allocation failed.
-    #[tactic(auto, using(crate::proofs::listener::EntryLemmas::length_written))]
+    #[tactic(auto, using(crate::proofs::listener::EntryLemmas::length_written, crate::proofs::listener::ServingLemmas::both_made, crate::proofs::listener::SleepLemmas::paired_written))]
     fn serve_next<A: Application, M: Monitor<W>>(
         &mut self,
         at: usize,

@@ -1,7 +1,7 @@
 -- The results of events, of each one and of several in order.
 use Rattle.std.proofs.Common.{[], ◌≡◌, ◌≢◌, ℕ, zero, suc, ◌+◌, ◌-◌, ◌<◌, ◌≤◌, true, false, ◌==◌, List, ◌∷◌, ◌++◌}
 use Rattle.std.proofs.Common.{length, get_or, take, drop, map, Option, Some, None, Result, Ok, Err, is_none, refl, ◌∙◌}
-use Rattle.std.proofs.Common.{append_assoc, arith, lt-ltb, add-suc, add-zero, add-one}
+use Rattle.std.proofs.Common.{append_assoc, arith, lt-ltb, add-suc, add-zero, add-one, ◌⊎◌, inl, inr, sym}
 use Rattle.std.proofs.lemmas.Bool.{le-ltb, ne_eqb}
 use Rattle.std.proofs.lemmas.List.{append-nil, take-append-drop, length-drop, length-take-le, length-map}
 use Rattle.std.proofs.Math.Seq.{take-suc, drop-cons}
@@ -13,7 +13,8 @@ use Rattle.coap_server_engine.specs.Prelude.{event_ran, replayed, IsPartialIn, I
 use Rattle.coap_server_engine.specs.Prelude.{where_there, took_turns, took, events_ran, ShowsMore, ShowsPartlyFed}
 use Rattle.coap_server_engine.specs.Prelude.{ShowsPart, events_made, ShowsRefusedAt, AddsBytes, WritesPart, ServerValue}
 use Rattle.coap_server_engine.specs.Prelude.{server_taken, count_taken, session_of, IsNotTaken, IsRun, Took, OutputLine}
-use Rattle.coap_server_engine.specs.Prelude.{Shows, AcceptedCall, request_lines, request_turns}
+use Rattle.coap_server_engine.specs.Prelude.{Shows, AcceptedCall, request_lines, request_turns, In, handed_frame}
+use Rattle.coap_server_engine.specs.Prelude.{request_text, IsTakeRefused, IsLineRefused, IsUnlisted, IsUnfinishedIn}
 use Rattle.coap_script.specs.declared.event.Event.{Event}
 use Rattle.coap_server_engine.specs.script.Replay.{result_after}
 use Rattle.coap_server_engine.specs.values.InResults.{goes_on}
@@ -51,7 +52,7 @@ no_such_path s path refused = grind arith
 pub not_taken_within : (v : ServerValue) (id : ℕ) (piece : List ℕ) (count : ℕ) (after : ServerValue)
     → IsNotTaken v id piece (taking.Memory count) after → (count ≤ length piece) × (length (take count piece) ≡ count)
 not_taken_within v id piece count after refused =
-    let found = refused_on v piece count (session_of id v.sessions) refused.0 in
+    let found = refused_on v piece count _ refused.0 in
     let fewer : count ≤ length piece = omega (arith, refused_within v.shared found.0 piece count found.2) in
     (fewer, length-take-le count piece fewer)
 
@@ -77,7 +78,7 @@ turns_stay v id bytes n is zero = rw add-zero (refl, refl, refl)
 turns_stay v id bytes n is (suc k) =
     let before = turns_stay v id bytes n is k in
     rw add-suc (
-      rw (before.0, is) refl,
+      rw (before.0, is),
       rw (before.1, before.0, is) (append-nil (took_turns n v id bytes)),
       rw (before.2, before.0, is) (append-nil (request_turns n v id bytes)),
     )
@@ -101,13 +102,13 @@ module _ {v : ServerValue} {id : ℕ} {bytes : List ℕ} {now : ServerValue} {ta
     done = count_taken now id (drop taken bytes) == 0;
   }
   unfolding fed_turns
-  turn_more_feeds = rw (add-one, feeds.so_far, lt-ltb taken (length bytes) left)
+  turn_more_feeds = rw (add-one, feeds.so_far, lt-ltb taken _ left)
 
   pub shows_more : (after : ServerValue) → ShowsTake now id (drop taken bytes) after
       → ShowsMore v after (took_turns (feeds.turns + 1) v id bytes)
   unfolding took_turns
   shows_more after more =
-      rw (add-one, feeds.so_far, lt-ltb taken (length bytes) left)
+      rw (add-one, feeds.so_far, lt-ltb taken _ left)
       (shows_then v now after (took_turns feeds.turns v id bytes) _ feeds.shows more)
 
   -- A take accepted some bytes.
@@ -116,8 +117,8 @@ module _ {v : ServerValue} {id : ℕ} {bytes : List ℕ} {now : ServerValue} {ta
       → ShowsTake now id (drop taken bytes) after → Feeds v id bytes after (taken + k)
   feeds_more k after within counted some is more = record {
     turns = feeds.turns + 1;
-    few = omega (arith, feeds.few, some);
-    within = omega (arith, within, left, length-drop taken bytes);
+    few = omega (arith, feeds.few);
+    within = omega (arith, within, length-drop taken bytes);
     so_far = cc (turn_more_feeds, ne_eqb k 0 some);
     shows = shows_more after more;
   }
@@ -132,7 +133,7 @@ module _ {v : ServerValue} {id : ℕ} {bytes : List ℕ} {now : ServerValue} {ta
       let turn : fed_turns (feeds.turns + 1) v id bytes ≡ record { server = after; count = taken; done = true } =
       cc (turn_more_feeds, add-zero taken) in
       let all = all_turns_made v id bytes (feeds.turns + 1) (rw (turn, and-false)) (length bytes)
-      (omega (arith, feeds.few, left)) in
+      (omega (arith, feeds.few)) in
       (all.0 ∙ turn, all.1, all.2)
 
   pub stopped_shows : (after : ServerValue) → count_taken now id (drop taken bytes) ≡ 0
@@ -146,7 +147,7 @@ module _ {v : ServerValue} {id : ℕ} {bytes : List ℕ} {now : ServerValue} {ta
   short count after refused = record {
     turns = feeds.turns;
     count = count;
-    going = rw (feeds.so_far, lt-ltb taken (length bytes) left);
+    going = rw (feeds.so_far, lt-ltb taken _ left);
     refused = rw feeds.so_far refused;
   }
 
@@ -156,7 +157,7 @@ module _ {v : ServerValue} {id : ℕ} {bytes : List ℕ} {now : ServerValue} {ta
   short_shown count after refused more = record {
     more = _;
     part = record { in_result = short count after refused; made = rw feeds.so_far };
-    shows = shows_then v now after (took_turns feeds.turns v id bytes) _ feeds.shows more;
+    shows = shows_then v now after _ _ feeds.shows more;
   }
 
 -- No byte is left.
@@ -164,8 +165,7 @@ module _ {v : ServerValue} {id : ℕ} {bytes : List ℕ} {now : ServerValue} {ta
     (feeds : Feeds v id bytes now taken) (none : length bytes ≤ taken) where
   pub all_used : AreTurnsOf v id bytes (length bytes) feeds.turns
   all_used =
-      all_turns_made v id bytes feeds.turns (rw (feeds.so_far, le-ltb taken (length bytes) none)) (length bytes)
-      (omega (arith, feeds.few, feeds.within))
+      all_turns_made v id bytes _ (rw (feeds.so_far, le-ltb taken _ none)) _ (omega (arith, feeds.few, feeds.within))
 
   pub used_up : in_result v id bytes ≡ record { server = now; count = taken; done = false }
   used_up = all_used.0 ∙ feeds.so_far
@@ -186,7 +186,7 @@ fed_nothing v id none bytes =
     let stuck = stuck_turns v id (absent_stuck v id none) bytes (length bytes) in (
       stuck.count,
       stuck.server,
-      rw (none_taken_there v id (rw none refl) bytes (length bytes)) (shows_same v v refl),
+      rw (none_taken_there v id (rw none) bytes (length bytes)) (shows_same v v refl),
     )
 
 -- ---- several events
@@ -216,9 +216,8 @@ pub is_at : (events : List Event) (index : ℕ) (x : Event) → index < length e
     → IsEventAt (map event_value events) index (event_value x)
 is_at events index x lt is =
     let all : List ScriptEventValue = map event_value events in
-    let within : index < length all = omega (arith, lt, length-map events event_value) in
-    let found : get_or all index (event_value x) ≡ event_value x =
-    rw (get_or-map event_value events index x, ← is) refl in
+    let within : index < length all = omega (arith, length-map events event_value) in
+    let found : get_or all index (event_value x) ≡ event_value x = rw (get_or-map event_value events index x, ← is) in
     let next = add-one index in
     record {
       within = within;
@@ -235,7 +234,7 @@ module _ {v : ServerValue} {all : List ScriptEventValue} {index : ℕ} {now : Se
   refused_at number after counted unrun = record {
     before = take index all;
     event = e;
-    others = drop (index + 1) all;
+    others = drop _ all;
     all = is_at.all_is;
     counted = cc (counted, is_at.counted);
     written = so_far.written;
@@ -260,7 +259,7 @@ module _ {v : ServerValue} {all : List ScriptEventValue} {index : ℕ} {now : Se
       → ShowsMore v after (events_ran v (take index all ++ e ∷ []))
   unfolding events_ran
   ran_shown after more =
-      rw (events_ran_on v (take index all) (e ∷ []), append-nil, ← so_far.server_is)
+      rw (events_ran_on v _ (e ∷ []), append-nil, ← so_far.server_is)
       (shows_then v now after (events_ran v (take index all)) (events_made now e) so_far.shown more)
 
   -- Its line is incomplete.
@@ -292,3 +291,75 @@ module _ {v : ServerValue} {all : List ScriptEventValue} {index : ℕ} {now : Se
         written = rw (next, ← ran.1) (bytes_then x y z (replayed v (take index all)).text line so_far.written wrote);
         shown = rw is_at.more (ran_shown after more);
       }
+
+-- The lines of the requests that the takes of an `in` hand to the application.
+
+-- Some takes accepted bytes, and the lines of their requests follow `front`.
+pub record Lists (v : ServerValue) (id : ℕ) (bytes : List ℕ) (now : ServerValue) (taken : ℕ)
+    (front lines : List ℕ) : Type 0 where
+  pub feeds : Feeds v id bytes now taken
+  pub so_far : lines ≡ front ++ request_turns feeds.turns v id bytes
+
+pub lists_nothing : (v : ServerValue) (id : ℕ) (bytes front : List ℕ) → Lists v id bytes v 0 front front
+unfolding feeds_nothing request_turns
+lists_nothing v id bytes front = record { feeds = feeds_nothing v id bytes; so_far = sym (append-nil front) }
+
+module _ {v : ServerValue} {id : ℕ} {bytes : List ℕ} {now : ServerValue} {taken : ℕ} {front lines : List ℕ}
+    (lists : Lists v id bytes now taken front lines) (left : taken < length bytes) where
+  next_lines : (next : List ℕ) → next ≡ lines ++ request_text id (handed_frame now id (drop taken bytes))
+      → next ≡ front ++ request_turns (lists.feeds.turns + 1) v id bytes
+  unfolding request_turns
+  next_lines next is =
+      rw (is, lists.so_far, add-one, lists.feeds.so_far, lt-ltb taken _ left)
+      (append_assoc front (request_turns lists.feeds.turns v id bytes) _)
+
+  -- A take accepted some bytes.
+  pub lists_more : (k : ℕ) (after : ServerValue) (next : List ℕ) → k ≤ length (drop taken bytes)
+      → k ≡ count_taken now id (drop taken bytes) → k ≢ 0 → after ≡ server_taken now id (drop taken bytes)
+      → ShowsTake now id (drop taken bytes) after
+      → next ≡ lines ++ request_text id (handed_frame now id (drop taken bytes))
+      → Lists v id bytes after (taken + k) front next
+  unfolding feeds_more
+  lists_more k after next within counted some is more listed =
+      let feeds = feeds_more lists.feeds left k after within counted some is more in
+      record { feeds = feeds; so_far = next_lines next listed }
+
+  -- A take accepted none.
+  pub listed_and_stopped : (after : ServerValue) (next : List ℕ) → count_taken now id (drop taken bytes) ≡ 0
+      → after ≡ server_taken now id (drop taken bytes)
+      → next ≡ lines ++ request_text id (handed_frame now id (drop taken bytes))
+      → next ≡ front ++ request_lines v id bytes
+  listed_and_stopped after next none is listed =
+      rw (stops_there lists.feeds left after none is).2 (next_lines next listed)
+
+  -- Allocation failed.
+  unlisted : (after : ServerValue) → IsLineRefused now id (drop taken bytes) after → IsUnlisted v id bytes after
+  unlisted after refused = record {
+    turns = lists.feeds.turns;
+    going = rw (lists.feeds.so_far, lt-ltb taken _ left);
+    handed = rw lists.feeds.so_far refused.handed;
+    server = rw (turn_more_feeds _ left) refused.server;
+  }
+
+  pub unfinished : (after : ServerValue)
+      → IsTakeRefused now id (drop taken bytes) after ⊎ IsLineRefused now id (drop taken bytes) after
+      → IsUnfinishedIn v id bytes after × ShowsPart v (In id bytes) after
+  unfolding unlisted
+  unfinished after (inl refused) =
+      let partly = short_shown lists.feeds left refused.count after refused.refused refused.shows in (
+        inl (short lists.feeds left refused.count after refused.refused),
+        record { more = partly.more; part = inl partly.part; shows = partly.shows },
+      )
+  unfinished after (inr refused) = (
+    inr (unlisted after refused),
+    record {
+      more = took_turns (lists.feeds.turns + 1) v id bytes;
+      part = inr (record { unlisted = unlisted after refused; made = refl });
+      shows = shows_more lists.feeds left after refused.shows;
+    },
+  )
+
+-- No byte is left.
+pub listed_all : {v : ServerValue} {id : ℕ} {bytes : List ℕ} {now : ServerValue} {taken : ℕ} {front lines : List ℕ}
+    (lists : Lists v id bytes now taken front lines) → length bytes ≤ taken → lines ≡ front ++ request_lines v id bytes
+listed_all lists none = rw (all_used lists.feeds none).2 lists.so_far

@@ -1,12 +1,12 @@
 -- The history that a server shows after the calls of a script's events.
-use Rattle.std.proofs.Common.{[], ◌≡◌, ℕ, false, List, ◌∷◌, ◌++◌, Option, Some, None, Result, Ok, Err, refl}
-use Rattle.std.proofs.Common.{append_assoc, zero, suc, drop, arith}
+use Rattle.std.proofs.Common.{[], ◌≡◌, ℕ, false, List, ◌∷◌, ◌++◌, Option, None, Result, Ok, Err, refl, append_assoc}
+use Rattle.std.proofs.Common.{zero, suc, drop, arith}
 use Rattle.std.proofs.lemmas.List.{append-nil}
 use Rattle.std.proofs.lemmas.Bool.{cond_both}
 use Rattle.coap_server_engine.specs.Prelude.{IsErr, AllocError, ScriptEventValue, event_ran, replayed, InResult, unfed}
 use Rattle.coap_server_engine.specs.Prelude.{fed_more, fed_turns, events_ran, ShowsMore, IsPartlyMade, ShowsPart}
 use Rattle.coap_server_engine.specs.Prelude.{ShowsRun, took_turns, ServerValue, session_of, is_there, server_taken}
-use Rattle.coap_server_engine.specs.Prelude.{server_taken_on, count_taken, AcceptedCall}
+use Rattle.coap_server_engine.specs.Prelude.{count_taken, AcceptedCall}
 use Rattle.coap_server_engine.specs.values.InResults.{goes_on}
 
 -- ---- servers
@@ -24,11 +24,7 @@ shows_then u v w es fs first second before shows =
 -- A take does not change the configuration.
 pub config_stays : (v : ServerValue) (id : ℕ) (piece : List ℕ) → (server_taken v id piece).config ≡ v.config
 unfolding server_taken
-config_stays v id piece =
-    elim (session_of id v.sessions) as (λ found. (server_taken_on v id piece found).config ≡ v.config) [
-      | None ↦ refl
-      | Some s ↦ refl
-    ]
+config_stays v id piece = grind arith
 
 -- ---- one call
 
@@ -65,8 +61,7 @@ unfolding fed_turns
 turns_keep P id bytes next v first zero = first
 turns_keep P id bytes next v first (suc turns) =
     let before = turns_keep P id bytes next v first turns in
-    cond_both (goes_on bytes (fed_turns turns v id bytes)) _ _ P
-    (λ goes. next (fed_turns turns v id bytes) before) (λ over. before)
+    cond_both _ _ _ P (λ goes. next _ before) (λ over. before)
 
 -- No take accepts a byte or changes the server.
 pub record IsStuck (v : ServerValue) (id : ℕ) : Type 0 where
@@ -84,8 +79,7 @@ pub record IsAt (v : ServerValue) (f : InResult) : Type 0 where
 pub stuck_turns : (v : ServerValue) (id : ℕ) → IsStuck v id → (bytes : List ℕ) (turns : ℕ)
     → IsAt v (fed_turns turns v id bytes)
 stuck_turns v id stuck bytes turns =
-    turns_keep (IsAt v) id bytes
-    (λ f is. record {
+    turns_keep (IsAt v) id bytes (λ f is. record {
       server = cc (is.server, stuck.stays (drop f.count bytes));
       count = cc (is.server, is.count, stuck.none (drop f.count bytes));
     })

@@ -1,14 +1,11 @@
 -- The room of a buffer for the responses of an application. It lasts, since no call changes the configuration.
-use Rattle.std.proofs.Common.{◌≡◌, ◌≤◌, ◌∙◌, ℕ, arith, List, [], ◌∷◌, Option, None, Some, drop, is_none, refl}
-use Rattle.std.proofs.Common.{ap, take}
+use Rattle.std.proofs.Common.{◌≡◌, ◌≤◌, ◌∙◌, ℕ, arith, List, [], ◌∷◌, Some, refl, ap}
 use Rattle.std.proofs.Math.Nat.{min-le_left}
-use Rattle.std.proofs.lemmas.Bool.{cond_both}
-use Rattle.coap_server_engine.specs.Prelude.{ConfigValues, HasResponseRoom, Message, ServerValue}
-use Rattle.coap_server_engine.specs.Prelude.{ask_result, asking, handed_by, message_limit, responded_refusal, served}
-use Rattle.coap_server_engine.specs.Prelude.{server_given, server_offered, server_taken, IsPartlyServed, AcceptedCall}
-use Rattle.coap_server_engine.specs.Prelude.{Exchange, IsTakenFor, IsNotTakenFor}
+use Rattle.coap_server_engine.specs.Prelude.{ConfigValues, HasResponseRoom, Message, ServerValue, ask_result, handed_by}
+use Rattle.coap_server_engine.specs.Prelude.{message_limit, served, server_offered, server_taken, IsPartlyServed}
+use Rattle.coap_server_engine.specs.Prelude.{AcceptedCall, Exchange, IsTakenFor, IsNotTakenFor}
 use Rattle.coap_server_engine.proofs.scripting.ShownLemmas.{config_stays}
-use Rattle.coap_server_engine.proofs.values.AtOnceLemmas.{has_applications, session_handed}
+use Rattle.coap_server_engine.proofs.world.AtOnceLaws.{has_applications, session_handed}
 
 -- A take that hands over a request is one of a server with applications. So there is room for the response.
 pub limit_within : (v : ServerValue) (id : ℕ) (piece : List ℕ) (m : Message) {capacity : ℕ}
@@ -17,37 +14,28 @@ pub limit_within : (v : ServerValue) (id : ℕ) (piece : List ℕ) (m : Message)
 unfolding message_limit
 limit_within v id piece m {capacity} same handed room =
     let at = session_handed v id piece m handed in
-    let most : v.config.limits.max_sent ≤ capacity = room (rw same (has_applications v.shared at.0 piece m at.2)) in
-    rw at.1 (omega (arith, most, min-le_left v.config.limits.max_sent at.0.link.peer_max))
+    let most = room (rw same (has_applications at.2)) in
+    rw at.1 (omega (arith, min-le_left v.config.limits.max_sent at.0.link.peer_max))
 
 -- A larger buffer has room too.
-pub more_room : (c : ConfigValues) {small large : ℕ} → small ≤ large → HasResponseRoom c small
-    → HasResponseRoom c large
-more_room c more room some = omega (arith, more, room some)
+pub more_room : (c : ConfigValues) {small large : ℕ} → small ≤ large → HasResponseRoom c small → HasResponseRoom c large
+more_room c more room some = omega (arith, room some)
 
 -- ---- the configuration
 
 pub offered_config : (v : ServerValue) (id : ℕ) (bytes : List ℕ) → (server_offered v id bytes).config ≡ v.config
-offered_config v id bytes =
-    cond_both (is_none (responded_refusal v id bytes)) (server_given v id bytes) v (λ w. w.config ≡ v.config)
-    (λ _. refl) (λ _. refl)
+offered_config v id bytes = grind arith
 
 asked_config : (v : ServerValue) (id : ℕ) (left response : List ℕ)
     → (ask_result v id left response).server.config ≡ v.config
-asked_config v id left response = by (handed_by v id left)
-  where
-    by : (o : Option Message)
-        → (asking (server_taken v id left) id (message_limit v id) response o).server.config ≡ v.config
-    by None = config_stays v id left
-    by (Some m) = offered_config (server_taken v id left) id _ ∙ config_stays v id left
+asked_config v id left response = grind (arith, config_stays v id left, offered_config (server_taken v id left) id)
 
 pub served_config : (v : ServerValue) (id : ℕ) (bytes : List ℕ) (responses : List (List ℕ))
     → (served v id bytes responses).fed.server.config ≡ v.config
 unfolding served
 served_config v id bytes [] = refl
 served_config v id bytes (response ∷ responses) =
-    asked_config (served v id bytes responses).fed.server id
-    (drop (served v id bytes responses).fed.count bytes) response ∙ served_config v id bytes responses
+    asked_config (served v id bytes responses).fed.server id _ response ∙ served_config v id bytes responses
 
 pub partly_config : {v after : ServerValue} {id : ℕ} {bytes : List ℕ} {reported : List AcceptedCall → Type 0}
     {asks : List Exchange → Type 0} → IsPartlyServed v id bytes after reported asks → after.config ≡ v.config
@@ -71,5 +59,4 @@ room_after_take {v = v} {id = id} {left = left} {response = response} so =
 pub room_after_failure : {v after : ServerValue} {id : ℕ} {left : List ℕ} {reported : List AcceptedCall → Type 0}
     {small large : ℕ} → IsNotTakenFor v id left after reported → small ≤ large → HasResponseRoom v.config small
     → HasResponseRoom after.config large
-room_after_failure {v = v} {id = id} {left = left} so =
-    room_on (ap (λ u. u.config) so.refused.1 ∙ config_stays v id (take so.count left))
+room_after_failure {v = v} {id = id} {left = left} so = room_on (ap (λ u. u.config) so.refused.1 ∙ config_stays v id _)

@@ -1,16 +1,14 @@
 -- The connections of a server: found by id, and changed at their index.
 use Rattle.std.proofs.Common.{◌≡◌, ℕ, zero, suc, ◌+◌, ◌<◌, ◌≤◌, Bool, true, false, List, [], ◌∷◌, ◌++◌, length, Option}
-use Rattle.std.proofs.Common.{Some, None, is_some, refl, sym, ap, subst, ◌∙◌, arith, map, filter, remove, IfNone}
-use Rattle.std.proofs.Common.{IfSome, OnOk, OnErr, Result, Ok, Err, not, nat_eq, option_map, nat_lt, slice_get, ◌==◌}
-use Rattle.std.proofs.Common.{if◌then◌else◌}
+use Rattle.std.proofs.Common.{Some, None, is_some, refl, sym, ap, ◌∙◌, arith, map, filter, remove, IfNone, IfSome}
+use Rattle.std.proofs.Common.{OnErr, Result, Ok, Err, not, nat_eq, option_map, nat_lt, slice_get, ◌==◌, if◌then◌else◌}
 use Rattle.coap_server_engine.specs.Prelude.{AllByRecursion, IsDistinct, position_or_len, position, lookup, keys_of}
 use Rattle.coap_server_engine.specs.Prelude.{values_of, nat_eq_equiv, set_value_at, insert_entry, ServerState}
 use Rattle.coap_server_engine.specs.Prelude.{SessionValue, new_session, session_settled, IsSettled, ServerValue, LiesAt}
 use Rattle.coap_server_engine.specs.Prelude.{session_of, is_there, changed_at, session_becomes, on_session}
 use Rattle.coap_server_engine.specs.Prelude.{settled_entry, server_settled, server_ticked, server_opened}
 use Rattle.coap_server_engine.specs.Prelude.{server_dropped, AreSettled, IsServer, open_refusal, splits_of}
-use Rattle.coap_server_engine.specs.Prelude.{MarkedSession, unmarked, unmarked_entry, session_written, IsFlushedAt}
-use Rattle.coap_server_engine.specs.Prelude.{IsFlushedOnce}
+use Rattle.coap_server_engine.specs.Prelude.{AreAllMarked, MarkedSession, unmarked, unmarked_entry, IsMarked}
 use Rattle.std.proofs.lemmas.Bool.{eqb-true, ne_eqb, cond_both}
 use Rattle.std.proofs.lemmas.List.{length-map, length_push}
 use Rattle.std.proofs.lemmas.List.Sums.{length-filter, count_by-le-length}
@@ -21,7 +19,7 @@ use Rattle.std.proofs.lemmas.Map.Made.{keys_of-map_values}
 use Rattle.std.proofs.lemmas.Option.{cond_some, slice_get-map, slice_get_within}
 use Rattle.coap_server_session.proofs.values.SettleLemmas.{none_is_pending, settled_quiet, settled_is_settled}
 use Rattle.coap_server_session.proofs.values.SettleLemmas.{settled_stays}
-use Rattle.coap_model.proofs.OptionLemmas.{there_is_none, there_at, same_there}
+use Rattle.coap_model.proofs.OptionLemmas.{there_at, same_there}
 use Rattle.coap_model.proofs.world.EntryLemmas.{all_to, all_append, all_filter, all_map, all_stay}
 
 abbrev pub Entries : Type 0
@@ -36,7 +34,7 @@ MarkedEntries = List (ℕ × MarkedSession)
 pub one_of_all : {S : Type 0} (P : S → Type 0) (i : ℕ) (es : List (ℕ × S)) (s : S) → AllByRecursion (λ e. P e.1) es
     → slice_get (values_of es) i ≡ Some s → P s
 one_of_all P i [] s all at = absurd cc
-one_of_all P zero (e ∷ es) s all at = subst P (let is : e.1 ≡ s = cc in is) all.0
+one_of_all P zero (e ∷ es) s all at = rw (same_there e.1 s at) at all.0
 one_of_all P (suc i) (e ∷ es) s all at = one_of_all P i es s all.1 at
 
 -- ---- without the marks
@@ -48,28 +46,21 @@ unmarked_looked_up id [] = refl
 unmarked_looked_up id (e ∷ es) = grind (arith, nat_tests, unmarked_looked_up id es)
 
 pub keys_unmarked : (es : MarkedEntries) → keys_of (unmarked es) ≡ keys_of es
-keys_unmarked [] = refl
-keys_unmarked (e ∷ es) = cc (keys_unmarked es)
+keys_unmarked = keys_of-map_values (λ s. s.session)
 
 value_unmarked : (es : MarkedEntries) (i : ℕ) → slice_get (values_of (unmarked es)) i ≡ option_map
     (λ (s : MarkedSession). s.session) (slice_get (values_of es) i)
-value_unmarked [] i = refl
-value_unmarked (e ∷ es) zero = refl
-value_unmarked (e ∷ es) (suc i) = value_unmarked es i
+value_unmarked es i = grind (arith, slice_get-map)
 
 pub unmarked_at : (es : MarkedEntries) (i : ℕ) (s : MarkedSession) → slice_get (values_of es) i ≡ Some s
     → slice_get (values_of (unmarked es)) i ≡ Some s.session
-unmarked_at es i s at = rw (value_unmarked es i, at) refl
-
-unmarked_written : (es : MarkedEntries) (i : ℕ) (s : MarkedSession)
-    → unmarked (set_value_at es i s) ≡ set_value_at (unmarked es) i s.session
-unmarked_written [] i s = refl
-unmarked_written (e ∷ es) zero s = refl
-unmarked_written (e ∷ es) (suc i) s = cc (unmarked_written es i s)
+unmarked_at es i s at = rw (value_unmarked es i, at)
 
 pub set_unmarked : (es : MarkedEntries) (i : ℕ) (s : MarkedSession) (v : SessionValue) → s.session ≡ v
     → unmarked (set_value_at es i s) ≡ set_value_at (unmarked es) i v
-set_unmarked es i s v is = cc (unmarked_written es i s)
+set_unmarked [] i s v is = refl
+set_unmarked (e ∷ es) zero s v is = cc
+set_unmarked (e ∷ es) (suc i) s v is = cc (set_unmarked es i s v is)
 
 -- A property of all connections still holds for all if it holds for the one that is written.
 pub all_written : (P : MarkedSession → Type 0) (es : MarkedEntries) (i : ℕ) (s : MarkedSession) → AllByRecursion
@@ -77,12 +68,6 @@ pub all_written : (P : MarkedSession → Type 0) (es : MarkedEntries) (i : ℕ) 
 all_written P [] i s all one = tt
 all_written P (e ∷ es) zero s all one = (one, all.1)
 all_written P (e ∷ es) (suc i) s all one = (all.0, all_written P es i s all.1 one)
-
-pub own_written : (P : MarkedSession → Type 0) (es : MarkedEntries) (i : ℕ) (s : MarkedSession) → P s
-    → IfSome (slice_get (values_of (set_value_at es i s)) i) P
-own_written P [] i s one = tt
-own_written P (e ∷ es) zero s one = one
-own_written P (e ∷ es) (suc i) s one = own_written P es i s one
 
 pub within_unmarked : (id i : ℕ) (es : MarkedEntries) → LiesAt id i (unmarked es) → i < length es
 within_unmarked id i es lies = omega (arith, lies.within, length-map es unmarked_entry)
@@ -95,21 +80,12 @@ inserted_unmarked (e ∷ es) id s = grind (arith, nat_tests, inserted_unmarked e
 pub all_inserted : (P : MarkedSession → Type 0) (es : MarkedEntries) (id : ℕ) (s : MarkedSession)
     → AllByRecursion (λ e. P e.1) es → P s → AllByRecursion (λ e. P e.1) (insert_entry nat_eq es id s)
 all_inserted P [] id s all one = (one, tt)
-all_inserted P (e ∷ es) id s all one =
-    cond_both (nat_eq id e.0) _ _ (AllByRecursion (λ x. P x.1)) (λ _. (one, all.1))
-    (λ _. (all.0, all_inserted P es id s all.1 one))
-
-pub still_unmarked : {T E : Type 0} (r : Result T E) (es fs : MarkedEntries) → OnErr r (es ≡ fs)
-    → OnErr r (unmarked es ≡ unmarked fs)
-still_unmarked (Ok x) es fs same = tt
-still_unmarked (Err e) es fs same = ap unmarked same
+all_inserted P (e ∷ es) id s all one = grind (arith, all_inserted P es id s all.1)
 
 -- The result of the lookup, for an absent and for a present id.
 pub none_where_none : (id : ℕ) (es : MarkedEntries) (r : Option ℕ) → is_some r ≡ is_some (lookup (nat_eq id) es)
     → IfNone r (session_of id (unmarked es) ≡ None)
-none_where_none id es None found =
-    rw (unmarked_looked_up id es, there_is_none (lookup (nat_eq id) es) (sym found)) refl
-none_where_none id es (Some i) found = tt
+none_where_none id es r found = grind (arith, unmarked_looked_up id es)
 
 pub one_where_some : (id : ℕ) (es : MarkedEntries) (r : Option ℕ) → IsDistinct nat_eq (keys_of es)
     → r ≡ position (nat_eq id) (keys_of es) → IfSome r (λ i. i < length es)
@@ -120,14 +96,14 @@ one_where_some id es (Some i) distinct index within value =
       distinct = rw (keys_unmarked es) distinct;
       index = rw (keys_unmarked es) (cond_some _ _ i (sym index)).1;
       within = rw (length-map es unmarked_entry) within;
-      found = rw (unmarked_looked_up id es, ← value, value_unmarked es i) refl;
+      found = rw (unmarked_looked_up id es, ← value, value_unmarked es i);
     }
 
 -- The key at an index is none that each key differs from.
 differs_at : (k id i : ℕ) (ks : List ℕ) → AllByRecursion (λ y. nat_eq k y ≡ false) ks → slice_get ks i ≡ Some id
     → nat_eq k id ≡ false
 differs_at k id i [] each at = absurd cc
-differs_at k id zero (y ∷ ks) each at = let same : y ≡ id = cc in rw same at each.0
+differs_at k id zero (y ∷ ks) each at = rw (same_there y id at) at each.0
 differs_at k id (suc i) (y ∷ ks) each at = differs_at k id i ks each.1 at
 
 -- The index of a key, if all are distinct.
@@ -160,21 +136,21 @@ found_at : (id i : ℕ) (es : Entries) → IsDistinct nat_eq (keys_of es) → po
     → i < length es → session_of id es ≡ slice_get (values_of es) i
 unfolding session_of
 found_at id i es =
-    at_number (λ es i. session_of id es ≡ slice_get (values_of es) i) id (λ e es here apart. rw here refl)
+    at_number (λ es i. session_of id es ≡ slice_get (values_of es) i) id (λ e es here apart. rw here)
     (λ e es i other rest. rw other rest) es i
 
 -- A connection is at the index of its id.
 pub lies_by_key : (id i : ℕ) (es : Entries) → IsDistinct nat_eq (keys_of es) → slice_get (keys_of es) i ≡ Some id
     → LiesAt id i es
 lies_by_key id i es distinct at =
-    let index = first_of id i (keys_of es) distinct at in
+    let index = first_of id i _ distinct at in
     let within : i < length es = omega (arith, slice_get_within (keys_of es) i id at, length-keys_of es) in
     record { distinct = distinct; index = index; within = within; found = found_at id i es distinct index within }
 
 -- It stays there while the ids are the same.
 pub lies_still : (id i : ℕ) (es fs : Entries) → keys_of fs ≡ keys_of es → LiesAt id i es → LiesAt id i fs
 lies_still id i es fs keys lies =
-    let distinct : IsDistinct nat_eq (keys_of fs) = rw keys lies.distinct in
+    let distinct : IsDistinct nat_eq _ = rw keys lies.distinct in
     let index = ap (position_or_len (nat_eq id)) keys ∙ lies.index in
     let within : i < length fs = omega (arith, lies.within, length-keys_of fs, length-keys_of es, ap length keys) in
     record { distinct = distinct; index = index; within = within; found = found_at id i fs distinct index within }
@@ -182,17 +158,20 @@ lies_still id i es fs keys lies =
 pub lies_at_key : (id i : ℕ) (s : MarkedSession) (es : MarkedEntries) → IsDistinct nat_eq (keys_of es)
     → slice_get es i ≡ Some (id, s) → LiesAt id i (unmarked es)
 lies_at_key id i s es distinct at =
-    lies_by_key id i (unmarked es) (rw (keys_unmarked es) distinct) (rw (keys_unmarked es, slice_get-map, at) refl)
+    lies_by_key id i _ (rw (keys_unmarked es) distinct) (rw (keys_unmarked es, slice_get-map, at))
 
 -- ---- changes
+
+abbrev pub settling : ServerState → (SessionValue → SessionValue) → SessionValue → SessionValue
+settling shared f s = session_settled shared (f s)
 
 -- A connection is written at an index.
 pub written_at_index : (f : SessionValue → SessionValue) (es : Entries) (i : ℕ) (s : SessionValue)
     → slice_get (values_of es) i ≡ Some s → set_value_at es i (f s) ≡ changed_at i f es
 unfolding changed_at
 written_at_index f [] i s at = refl
-written_at_index f (e ∷ es) zero s at = ap (λ v. (e.0, f v) ∷ es) (let is : e.1 ≡ s = cc in sym is)
-written_at_index f (e ∷ es) (suc i) s at = ap (λ rest. e ∷ rest) (written_at_index f es i s at)
+written_at_index f (e ∷ es) zero s at = cc (same_there e.1 s at)
+written_at_index f (e ∷ es) (suc i) s at = cc (written_at_index f es i s at)
 
 -- A connection is written at an index, with the value that a function makes of it.
 pub written_unmarked : (f : SessionValue → SessionValue) (es : MarkedEntries) (i : ℕ) (s after : MarkedSession)
@@ -200,6 +179,21 @@ pub written_unmarked : (f : SessionValue → SessionValue) (es : MarkedEntries) 
     → unmarked (set_value_at es i after) ≡ changed_at i f (unmarked es)
 written_unmarked f es i s after at is =
     set_unmarked es i after _ is ∙ written_at_index f (unmarked es) i s.session (unmarked_at es i s at)
+
+-- A call on the connection at an index, which settles then.
+pub record IsSettledAt (shared : ServerState) (i : ℕ) (f : SessionValue → SessionValue) (es fs : MarkedEntries)
+    : Type 0 where
+  pub after : unmarked fs ≡ changed_at i (settling shared f) (unmarked es)
+  pub marked : AreAllMarked shared fs
+
+pub settled_call : {shared : ServerState} {es : MarkedEntries} {i : ℕ} {s : MarkedSession} {called : SessionValue}
+    (f : SessionValue → SessionValue) (new : MarkedSession) → AreAllMarked shared es
+    → slice_get (values_of es) i ≡ Some s → called ≡ f s.session → new.session ≡ session_settled shared called
+    → IsMarked shared new → IsSettledAt shared i f es (set_value_at es i new)
+settled_call {shared = shared} {es = es} {i = i} {s = s} f new marked at is settles own = record {
+  after = written_unmarked _ es i s new at (settles ∙ ap (session_settled shared) is);
+  marked = all_written (IsMarked shared) es i new marked own;
+}
 
 -- The connection that was at an index, and the one that is written there.
 pub read_written : {S : Type 0} (es : List (ℕ × S)) (i : ℕ) (s new : S) → slice_get (values_of es) i ≡ Some s
@@ -212,14 +206,12 @@ read_written (e ∷ es) (suc i) s new at = read_written es i s new at
 pub splits_written : (es : MarkedEntries) (i : ℕ) (s new : MarkedSession) → slice_get (values_of es) i ≡ Some s
     → new.split ≡ s.split → splits_of (set_value_at es i new) ≡ splits_of es
 splits_written [] i s new at same = refl
-splits_written (e ∷ es) zero s new at same = let is : e.1 ≡ s = cc in rw (same, is) refl
+splits_written (e ∷ es) zero s new at same = cc (same_there e.1 s at)
 splits_written (e ∷ es) (suc i) s new at same = cc (splits_written es i s new at same)
 
 split_there : (es : MarkedEntries) (i : ℕ) (s : MarkedSession) → slice_get (values_of es) i ≡ Some s
     → slice_get (splits_of es) i ≡ Some s.split
-split_there [] i s at = absurd cc
-split_there (e ∷ es) zero s at = let is : e.1 ≡ s = cc in rw is refl
-split_there (e ∷ es) (suc i) s at = split_there es i s at
+split_there es i s at = grind (arith, slice_get-map)
 
 -- If no split frame changed, that of the connection at an index is the same.
 pub same_split : (es fs : MarkedEntries) (i : ℕ) (s t : MarkedSession) → slice_get (values_of es) i ≡ Some s
@@ -244,7 +236,7 @@ length-written (e ∷ es) (suc i) s = ap suc (length-written es i s)
 pub written_back : {S : Type 0} (es : List (ℕ × S)) (i : ℕ) (s back : S) → slice_get (values_of es) i ≡ Some s
     → back ≡ s → set_value_at es i back ≡ es
 written_back [] i s back at is = refl
-written_back (e ∷ es) zero s back at is = let same : back ≡ e.1 = cc in rw same refl
+written_back (e ∷ es) zero s back at is = rw (is, ← same_there e.1 s at)
 written_back (e ∷ es) (suc i) s back at is = cc (written_back es i s back at is)
 
 -- Connections with other ids stay the same.
@@ -258,21 +250,17 @@ pub changed_one : (id : ℕ) (f : SessionValue → SessionValue) (es : Entries) 
     → position_or_len (nat_eq id) (keys_of es) ≡ i → i < length es → changed_at i f es ≡ map (session_becomes id f) es
 unfolding changed_at
 changed_one id f =
-    at_number (λ es i. changed_at i f es ≡ map (session_becomes id f) es) id
+    at_number (λ es i. changed_at i f es ≡ map _ es) id
     (λ e es here apart. cc (here, others_same id f es apart)) (λ e es i other rest. cc (other, rest))
 
 -- ---- settling
-
-abbrev pub settling : ServerState → (SessionValue → SessionValue) → SessionValue → SessionValue
-settling shared f s = session_settled shared (f s)
 
 -- If all connections were settled, only the changed one needs to settle.
 pub one_settles : (shared : ServerState) (id : ℕ) (f : SessionValue → SessionValue) (es : Entries)
     → AreSettled shared es
     → map (session_becomes id (settling shared f)) es ≡ map (settled_entry shared) (map (session_becomes id f) es)
 one_settles shared id f [] all = refl
-one_settles shared id f (e ∷ es) all =
-    grind (arith, settled_stays shared e.1 all.0, one_settles shared id f es all.1)
+one_settles shared id f (e ∷ es) all = grind (arith, settled_stays shared e.1 all.0, one_settles shared id f es all.1)
 
 pub all_are_settled : (shared : ServerState) (es : Entries) → AreSettled shared (map (settled_entry shared) es)
 all_are_settled shared [] = tt
@@ -280,13 +268,13 @@ all_are_settled shared (e ∷ es) = (settled_is_settled shared e.1, all_are_sett
 
 pub all_settled_stay : (shared : ServerState) (es : Entries) → AreSettled shared es → map (settled_entry shared) es ≡ es
 all_settled_stay shared es all =
-    all_stay (settled_entry shared) es (all_to (λ (e : ℕ × SessionValue). IsSettled shared e.1)
-    (λ (e : ℕ × SessionValue). settled_entry shared e ≡ e) (λ e is. rw (settled_stays shared e.1 is) refl) es all)
+    all_stay _ es (all_to (λ (e : ℕ × SessionValue). IsSettled shared e.1)
+    (λ e. settled_entry shared e ≡ e) (λ e is. rw (settled_stays shared e.1 is)) es all)
 
 -- A property of all entries still holds if the changed entry keeps it.
 pub all_still : (P : ℕ × SessionValue → Type 0) (id : ℕ) (f : SessionValue → SessionValue) → ((e : ℕ × SessionValue)
     → P e → P (e.0, f e.1)) → (es : Entries) → AllByRecursion P es → AllByRecursion P (map (session_becomes id f) es)
-all_still P id f to = all_map P P (session_becomes id f) (λ e holds. cond_both (nat_eq e.0 id) (e.0, f e.1) e P
+all_still P id f to = all_map P P _ (λ e holds. cond_both (nat_eq e.0 id) (e.0, f e.1) e P
     (λ _. to e holds) (λ _. holds))
 
 -- ---- a server after one connection may have changed and all have settled
@@ -295,17 +283,17 @@ pub settled_server : (v : ServerValue) (entries : Entries) → entries ≡ map (
     → AllByRecursion (λ e. e.0 ≤ v.ids) v.sessions → length v.sessions ≤ v.config.connections
     → IsServer (record v { sessions = entries })
 settled_server v entries is numbered few = rw is (record {
-  settled = all_are_settled v.shared v.sessions;
-  numbered = all_map (λ e. e.0 ≤ v.ids) (λ e. e.0 ≤ v.ids) (settled_entry v.shared) (λ e low. low) v.sessions numbered;
-  few = rw (length-map v.sessions (settled_entry v.shared)) few;
+  settled = all_are_settled v.shared _;
+  numbered = all_map (λ e. e.0 ≤ v.ids) (λ e. e.0 ≤ v.ids) (settled_entry v.shared) (λ e low. low) _ numbered;
+  few = rw (length-map v.sessions _) few;
 })
 
 pub taken_server_with : (v : ServerValue) (id : ℕ) (f : SessionValue → SessionValue) (shared : ServerState) → IsServer v
     → IsServer (server_settled (record (on_session id f v) { shared = shared }))
 taken_server_with v id f shared server =
     settled_server (record (on_session id f v) { shared = shared }) _ refl
-    (all_still (λ e. e.0 ≤ v.ids) id f (λ e low. low) v.sessions server.numbered)
-    (rw (length-map v.sessions (session_becomes id f)) server.few)
+    (all_still (λ e. e.0 ≤ v.ids) id f (λ e low. low) _ server.numbered)
+    (rw (length-map v.sessions _) server.few)
 
 -- Ids keep their index.
 pub keys_where_one_changed : (id : ℕ) (f : SessionValue → SessionValue) (es : Entries)
@@ -319,9 +307,8 @@ keys_where_settled id f shared es =
     keys_of-map_values (session_settled shared) (map (session_becomes id f) es) ∙ keys_where_one_changed id f es
 
 pub lies_where_taken : (id i : ℕ) (f : SessionValue → SessionValue) (shared : ServerState) (es : Entries)
-    → LiesAt id i es
-    → LiesAt id i (map (settled_entry shared) (map (session_becomes id f) es))
-lies_where_taken id i f shared es = lies_still id i es (map (settled_entry shared) (map (session_becomes id f) es))
+    → LiesAt id i es → LiesAt id i (map (settled_entry shared) (map (session_becomes id f) es))
+lies_where_taken id i f shared es = lies_still id i es _
     (keys_where_settled id f shared es)
 
 -- The connections of a server after one of them was changed by `f`, and settled.
@@ -334,29 +321,17 @@ pub is_changed : {v : ServerValue} {id i : ℕ} {entries : Entries} (f : Session
     → LiesAt id i v.sessions → entries ≡ changed_at i (settling v.shared f) v.sessions → IsChanged v id i f entries
 is_changed {v = v} {id = id} {i = i} f server lies is = rw (
   is,
-  changed_one id (settling v.shared f) v.sessions i lies.distinct lies.index lies.within,
-  one_settles v.shared id f v.sessions server.settled,
+  changed_one id _ v.sessions i lies.distinct lies.index lies.within,
+  one_settles v.shared id f _ server.settled,
 ) (record {
   server = taken_server_with v id f v.shared server;
   value = refl;
   lies = lies_where_taken id i f v.shared v.sessions lies;
 })
 
--- The same for a call that may fail and changes nothing then.
-pub changed_or_not : {T E : Type 0} {v w : ServerValue} {id i : ℕ} {entries : Entries} (r : Result T E)
-    (f : SessionValue → SessionValue) → v ≡ w → IsServer v → LiesAt id i v.sessions
-    → OnOk r (entries ≡ changed_at i (settling v.shared f) v.sessions) → OnErr r (entries ≡ v.sessions)
-    → IsServer (record v { sessions = entries })
-    × OnOk r (record v { sessions = entries } ≡ server_settled (on_session id f w))
-changed_or_not (Ok x) f same server lies ok err =
-    let is = is_changed f server lies ok in (is.server, rw (← same) is.value)
-changed_or_not (Err e) f same server lies ok err = (rw err server, tt)
-
 -- A tick to the current time changes nothing.
 pub same_moment : (v : ServerValue) (now : ℕ) → IsServer v → now ≡ v.shared.now → v ≡ server_ticked v now
-same_moment v now server same = rw (same, all_settled_stay v.shared v.sessions server.settled) refl
-
--- ---- all connections settle, one after the other
+same_moment v now server same = rw (same, all_settled_stay v.shared _ server.settled)
 
 -- ---- a connection is removed
 
@@ -373,11 +348,10 @@ others_are_kept id (e ∷ es) apart = rw (nat_eq_equiv.symm e.0 id ∙ apart.0) 
 pub one_removed : (v : ServerValue) (id i : ℕ) → AreSettled v.shared v.sessions → LiesAt id i v.sessions
     → remove v.sessions i ≡ map (settled_entry v.shared) (filter (is_other id) v.sessions)
 one_removed v id i settled lies =
-    rw (all_settled_stay v.shared (filter (is_other id) v.sessions) (all_filter (λ e. IsSettled v.shared e.1)
-    (is_other id) v.sessions settled))
-    (at_number (λ es i. remove es i ≡ filter (is_other id) es) id
+    rw (all_settled_stay v.shared _ (all_filter (λ e. IsSettled v.shared e.1)
+    (is_other id) _ settled)) (at_number (λ es i. remove es i ≡ filter (is_other id) es) id
     (λ e es here apart. cc (here, others_are_kept id es apart)) (λ e es i other rest. cc (other, rest))
-    v.sessions i lies.distinct lies.index lies.within)
+    _ i lies.distinct lies.index lies.within)
 
 module _ (v : ServerValue) (id i : ℕ) (entries : Entries) (server : IsServer v) (lies : LiesAt id i v.sessions)
     (is : entries ≡ remove v.sessions i) where
@@ -385,7 +359,7 @@ module _ (v : ServerValue) (id i : ℕ) (entries : Entries) (server : IsServer v
   one_gone = is ∙ one_removed v id i server.settled lies
 
   pub dropped_value : record v { sessions = entries } ≡ server_dropped v id
-  dropped_value = rw one_gone refl
+  dropped_value = rw one_gone
 
   pub dropped_server : IsServer (record v { sessions = entries })
   dropped_server =
@@ -399,8 +373,7 @@ module _ (v : ServerValue) (id i : ℕ) (entries : Entries) (server : IsServer v
 goes_last : (n : ℕ) (s : SessionValue) (es : Entries) → AllByRecursion (λ e. e.0 ≤ n) es
     → insert_entry nat_eq es (n + 1) s ≡ es ++ (n + 1, s) ∷ []
 goes_last n s [] all = refl
-goes_last n s (e ∷ es) all =
-    rw (ne_eqb (n + 1) e.0 (λ is. omega (arith, all.0))) (cc (goes_last n s es all.1))
+goes_last n s (e ∷ es) all = rw (ne_eqb (n + 1) e.0 (λ is. omega (arith, all.0))) (cc (goes_last n s es all.1))
 
 abbrev pub with_new : ServerValue → Entries
 with_new v = v.sessions ++ (v.ids + 1, new_session v.config.limits) ∷ []
@@ -408,14 +381,14 @@ with_new v = v.sessions ++ (v.ids + 1, new_session v.config.limits) ∷ []
 pub one_opened : (v : ServerValue) → AreSettled v.shared v.sessions → map (settled_entry v.shared) (with_new v)
     ≡ with_new v
 one_opened v settled =
-    let quiet = settled_quiet v.shared (new_session v.config.limits) (none_is_pending v.shared.now [] (omega arith))
+    let quiet = settled_quiet v.shared _ (none_is_pending v.shared.now [] (omega arith))
     refl in
-    all_settled_stay v.shared (with_new v) (all_append (λ e. IsSettled v.shared e.1) v.sessions _ settled (quiet, tt))
+    all_settled_stay v.shared _ (all_append (λ e. IsSettled v.shared e.1) v.sessions _ settled (quiet, tt))
 
 module _ (v : ServerValue) (entries : Entries) (server : IsServer v) (is : entries ≡ insert_entry nat_eq v.sessions
     (v.ids + 1) (new_session v.config.limits)) where
-  one_last : entries ≡ with_new v
-  one_last = is ∙ goes_last v.ids (new_session v.config.limits) v.sessions server.numbered
+  pub one_last : entries ≡ with_new v
+  one_last = is ∙ goes_last v.ids _ v.sessions server.numbered
 
   one_more_last : entries ≡ map (settled_entry v.shared) (with_new v)
   one_more_last = one_last ∙ sym (one_opened v server.settled)
@@ -430,13 +403,12 @@ module _ (v : ServerValue) (entries : Entries) (server : IsServer v) (is : entri
       last_key (e ∷ es) = last_key es
 
   pub opened_value : record v { ids = v.ids + 1; sessions = entries } ≡ server_opened v
-  opened_value = rw one_more_last refl
+  opened_value = rw one_more_last
 
   pub opened_server : length v.sessions < v.config.connections
       → IsServer (record v { ids = v.ids + 1; sessions = entries })
   opened_server room =
-      let lower = all_to (λ e. e.0 ≤ v.ids) (λ e. e.0 ≤ v.ids + 1) (λ e low. omega (arith, low)) v.sessions
-      server.numbered in
+      let lower = all_to (λ e. e.0 ≤ v.ids) (λ e. e.0 ≤ v.ids + 1) (λ e low. omega arith) v.sessions server.numbered in
       settled_server (record v { ids = v.ids + 1; sessions = with_new v }) entries one_more_last
       (all_append (λ e. e.0 ≤ v.ids + 1) v.sessions _ lower (omega arith, tt))
       (omega (arith, length_push v.sessions (v.ids + 1, new_session v.config.limits)))
@@ -464,19 +436,3 @@ pub for_one_on_fault : {T E : Type 0} (r : Result T E) (o : Option SessionValue)
     (t : SessionValue) → o ≡ Some t → P t → OnErr r ((s : SessionValue) → o ≡ Some s → P s)
 for_one_on_fault (Ok x) o P t is holds = tt
 for_one_on_fault (Err e) o P t is holds = λ s also. rw (same_session o s t also is) holds
-
--- The server after one iteration of a flush.
-pub record IsTurned (v : ServerValue) (id i : ℕ) (entries : Entries) (wrote : List ℕ → Type 0)
-    (waited : Bool) : Type 0 where
-  pub server : IsServer (record v { sessions = entries })
-  pub value : IsFlushedOnce id v (record v { sessions = entries }) wrote waited
-  pub lies : LiesAt id i entries
-
-pub turned : {v : ServerValue} {id i : ℕ} {s : SessionValue} {entries : Entries} (wrote : List ℕ → Type 0)
-    (waited : Bool) → IsServer v → LiesAt id i v.sessions → slice_get (values_of v.sessions) i ≡ Some s
-    → IsFlushedAt i v.shared s v.sessions entries wrote waited → IsTurned v id i entries wrote waited
-turned {s = s} wrote true server lies here did =
-    let is = is_changed (λ u. session_written u (length s.link.waiting)) server lies did.0 in
-    record { server = is.server; value = rw (lies.found ∙ here) (is.value, did.1); lies = is.lies }
-turned wrote false server lies here did =
-    rw did.1 (record { server = server; value = rw (lies.found ∙ here) (did.0, refl, did.2); lies = lies })

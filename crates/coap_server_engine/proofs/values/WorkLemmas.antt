@@ -1,9 +1,10 @@
 -- The connections on which a call leaves the same work.
-use Rattle.std.proofs.Common.{◌≡◌, ◌≢◌, ℕ, ◌+◌, ◌<◌, ◌≤◌, Bool, nat_lt, List, [], ◌∷◌, ◌++◌, length, Option, Some, refl}
-use Rattle.std.proofs.Common.{sym, ap, ◌∙◌, arith, map, remove, option_map, is_none, is_some, IfSome, None, slice_get}
-use Rattle.std.proofs.Common.{true, false, if◌then◌else◌}
-use Rattle.std.proofs.lemmas.Bool.{or_parts, ltb-false, cond_both}
+use Rattle.std.proofs.Common.{◌≡◌, ◌≢◌, ℕ, ◌+◌, ◌<◌, ◌≤◌, nat_lt, List, [], ◌∷◌, ◌++◌, length, Option, Some, refl, sym}
+use Rattle.std.proofs.Common.{ap, ◌∙◌, arith, map, remove, option_map, is_none, is_some, IfSome, None, slice_get, false}
+use Rattle.std.proofs.Common.{zero, suc, add-one, inl, inr, ◌^◌}
+use Rattle.std.proofs.lemmas.Bool.{or_parts, ltb-false, cond_both, cases_lt}
 use Rattle.std.proofs.lemmas.Bool.Decides.{nat_tests}
+use Rattle.std.proofs.lemmas.List.{map-append}
 use Rattle.std.proofs.lemmas.Map.Entries.{length-values_of}
 use Rattle.std.proofs.lemmas.Map.Made.{keys_of-map_values}
 use Rattle.indexmap.proofs.SetLemmas.{map-remove}
@@ -11,18 +12,18 @@ use Rattle.coap_server_engine.specs.Prelude.{keys_of, values_of, Path, Change, P
 use Rattle.coap_server_engine.specs.Prelude.{SessionValue, shared_changed, due_on, path_hash, change_hash, new_session}
 use Rattle.coap_server_engine.specs.Prelude.{session_settled, IsSettled, ServerValue, LiesAt, session_of}
 use Rattle.coap_server_engine.specs.Prelude.{session_becomes, settled_entry, on_session, server_settled, server_opened}
-use Rattle.coap_server_engine.specs.Prelude.{server_dropped, server_ticked, server_put, server_removed, server_given}
-use Rattle.coap_server_engine.specs.Prelude.{server_offered, session_given_by, message_of, responded_refusal}
-use Rattle.coap_server_engine.specs.Prelude.{AreSettled, Covers, IsOutside, bit_of, work_of, KeepsWork, KeepsOthers}
-use Rattle.coap_server_engine.specs.Prelude.{AddsAffected, AddsConcerned, TakeOutcome, taking, server_taken}
-use Rattle.coap_server_engine.specs.Prelude.{server_taken_so, set_value_at}
-use Rattle.coap_server_engine.specs.values.ServerDeadlines.{session_work}
+use Rattle.coap_server_engine.specs.Prelude.{server_dropped, server_ticked, server_put, server_removed, server_offered}
+use Rattle.coap_server_engine.specs.Prelude.{session_given_by, message_of, responded_refusal, AreSettled, Covers}
+use Rattle.coap_server_engine.specs.Prelude.{IsOutside, bit_of, work_of, KeepsWork, KeepsOthers, AddsAffected}
+use Rattle.coap_server_engine.specs.Prelude.{AddsConcerned, TakeOutcome, taking, server_taken, server_taken_so}
+use Rattle.coap_server_engine.specs.Prelude.{set_value_at, AllByRecursion, IsBefore, OnlyTimePasses, next_deadline}
+use Rattle.coap_server_engine.specs.Prelude.{earliest_deadline, WaitsForDeadlines}
 use Rattle.coap_server_session.specs.Prelude.{AllByRecursion, find, list_any, ObserverValue, is_stale, is_time_observer}
-use Rattle.coap_server_session.specs.Prelude.{changed_mark, may_concern, IsBefore}
+use Rattle.coap_server_session.specs.Prelude.{changed_mark, may_concern, IsBefore, sooner}
 use Rattle.coap_server_session.specs.declared.cause.Cause.TheVariants as cause
 use Rattle.coap_server_session.proofs.values.SettleLemmas.{settled_stays, settled_still, none_is_pending}
 use Rattle.coap_server_session.proofs.values.CauseLemmas.{hash_where_changed, settled_elsewhere}
-use Rattle.coap_server_session.proofs.values.DueLemmas.{at_moment, mark_later}
+use Rattle.coap_server_session.proofs.values.DueLemmas.{at_moment, mark_later, stays_settled}
 use Rattle.coap_server_session.proofs.values.TakenLemmas.{shared_stays}
 use Rattle.coap_server_session.proofs.values.ConcernLemmas.{unconcerned}
 use Rattle.coap_model.proofs.OptionLemmas.{there_at}
@@ -30,6 +31,7 @@ use Rattle.coap_model.proofs.world.EntryLemmas.{none_due}
 use Rattle.coap_server_engine.proofs.values.ServerLemmas.{Entries, settling, one_of_all, one_settles, one_opened}
 use Rattle.coap_server_engine.proofs.values.ServerLemmas.{one_removed, keys_where_settled, keys_where_one_changed}
 use Rattle.coap_server_engine.proofs.values.ServerLemmas.{lies_still, written_at_index, changed_one, all_are_settled}
+use Rattle.coap_server_engine.proofs.values.ServerLemmas.{all_settled_stay}
 
 -- ---- the other connections
 
@@ -43,7 +45,7 @@ other_is_there : (other id : ℕ) (s : SessionValue) (es : Entries) → other �
     session_of other es
 unfolding session_of
 other_is_there other id s [] apart = grind (arith, nat_tests)
-other_is_there other id s (e ∷ es) apart = rw (other_is_there other id s es apart) refl
+other_is_there other id s (e ∷ es) apart = rw (other_is_there other id s es apart)
 
 each_settles : (other : ℕ) (shared : ServerState) (es : Entries) → session_of other (map (settled_entry shared) es) ≡
     option_map (session_settled shared) (session_of other es)
@@ -69,38 +71,33 @@ pub keeps_others : (v : ServerValue) (id : ℕ) (f : SessionValue → SessionVal
 keeps_others v id f settled =
     let stays : (other : ℕ) → other ≢ id
     → session_of other (server_settled (on_session id f v)).sessions ≡ session_of other v.sessions =
-    λ other apart. rw (← one_settles v.shared id f v.sessions settled)
+    λ other apart. rw (← one_settles v.shared id f _ settled)
     (other_stays other id (settling v.shared f) v.sessions apart) in
     record {
-      keys = keys_where_settled id f v.shared v.sessions;
+      keys = keys_where_settled id f v.shared _;
       same = stays;
-      work = λ other apart. rw (stays other apart) refl;
+      work = λ other apart. rw (stays other apart);
     }
 
 -- A response is given, if the server accepts it.
 pub offered_keeps : (v : ServerValue) (id : ℕ) (bytes : List ℕ) → AreSettled v.shared v.sessions → KeepsOthers id v
     (server_offered v id bytes)
 offered_keeps v id bytes settled =
-    cond_both (is_none (responded_refusal v id bytes)) (server_given v id bytes) v (KeepsOthers id v)
+    cond_both (is_none (responded_refusal v id bytes)) _ v (KeepsOthers id v)
     (λ _. keeps_others v id (session_given_by (message_of bytes)) settled) (λ _. keeps_all id v)
 
 module _ (v : ServerValue) (settled : AreSettled v.shared v.sessions) where
   pub opened_keys : keys_of (server_opened v).sessions ≡ keys_of v.sessions ++ (v.ids + 1) ∷ []
-  opened_keys = ap keys_of (one_opened v settled) ∙ keys_with v.sessions
-    where
-      keys_with : (es : Entries) → keys_of (es ++ (v.ids + 1, new_session v.config.limits) ∷ []) ≡ keys_of es ++
-          (v.ids + 1) ∷ []
-      keys_with [] = refl
-      keys_with (e ∷ es) = ap (λ (ks : List ℕ). e.0 ∷ ks) (keys_with es)
+  opened_keys = ap keys_of (one_opened v settled) ∙ map-append (λ e. e.0) v.sessions _
 
   pub opened_keeps : (other : ℕ) → other ≢ v.ids + 1 → work_of (server_opened v) other ≡ work_of v other
   opened_keeps other apart =
-      ap (option_map (session_work v.shared.now)) (ap (session_of other) (one_opened v settled) ∙ other_is_there other
-      (v.ids + 1) (new_session v.config.limits) v.sessions apart)
+      ap (option_map _) (ap (session_of other) (one_opened v settled) ∙ other_is_there other
+      _ (new_session v.config.limits) _ apart)
 
   pub dropped_keys : (id i : ℕ) → LiesAt id i v.sessions → keys_of (server_dropped v id).sessions ≡ remove
       (keys_of v.sessions) i
-  dropped_keys id i lies = ap keys_of (sym (one_removed v id i settled lies)) ∙ map-remove (λ e. e.0) v.sessions i
+  dropped_keys id i lies = ap keys_of (sym (one_removed v id i settled lies)) ∙ map-remove (λ e. e.0) _ i
 
 -- ---- changes that concern several connections
 
@@ -117,7 +114,7 @@ stays_there v shared es id s before now settled due =
     rw (each_settles id shared es, now, before, settled_stays shared s settled, due) (refl, refl)
 
 one_at : (id i : ℕ) (es : Entries) → LiesAt id i es → (s : SessionValue) × (slice_get (values_of es) i ≡ Some s)
-one_at id i es lies = there_at (values_of es) i (rw (length-values_of es) lies.within)
+one_at id i es lies = there_at _ i (rw (length-values_of es) lies.within)
 
 -- If each connection outside the set is settled already, and its deadline stays, nothing changes when all settle.
 keeps_settled : (v : ServerValue) (words : List ℕ) (shared : ServerState)
@@ -133,7 +130,7 @@ keeps_settled v words shared calm = record {
     one : (i id : ℕ) → LiesAt id i v.sessions → IsOutside words i
         → IsSame v (server_settled (record v { shared = shared })) id
     one i id lies outside =
-        let s = one_at id i v.sessions lies in
+        let s = one_at id i _ lies in
         let is = calm i s.0 s.1 outside in
         stays_there v shared v.sessions id s.0 (lies.found ∙ s.1) (lies.found ∙ s.1) is.0 is.1
 
@@ -144,19 +141,11 @@ fresh_later : (shared : ServerState) (later : ℕ) (os : List ObserverValue) →
 unfolding changed_mark
 fresh_later shared later [] store none fresh = refl
 fresh_later shared later (o ∷ os) store none fresh =
-    let parts = or_parts (is_time_observer o) (list_any is_time_observer os) none in
-    let unmarked : changed_mark (at_moment shared later) o ≡ None =
-    rw (← mark_later shared later o store parts.0, fresh.0)
-    refl in
-    rw (not_marked _ _ unmarked) (fresh_later shared later os store parts.1 fresh.1)
-  where
-    not_marked : (stale : Bool) (mark : ℕ) → (if stale then Some mark else None) ≡ None → stale ≡ false
-    not_marked true mark none = absurd cc
-    not_marked false mark none = refl
+    grind (arith, fresh.0, mark_later shared later o store, fresh_later shared later os store)
 
 -- A connection that no change of the time concerns has no deadline.
 pub never_due : (now : ℕ) (s : SessionValue) → may_concern (cause.Moment now) s ≡ false → due_on now s ≡ None
-never_due now s none = never (due_on now s) (λ due. (unconcerned (cause.Moment now) due s none).0)
+never_due now s none = never _ (λ due. (unconcerned (cause.Moment now) due s none).0)
   where
     never : (o : Option ℕ) → ((due : ℕ) → IsBefore due o) → o ≡ None
     never None each = refl
@@ -175,10 +164,10 @@ timeless shared later s store none settled =
 pub moment_keeps : (v : ServerValue) (words : List ℕ) (later : ℕ) → IsStore v.shared.store
     → AreSettled v.shared v.sessions
     → Covers (cause.Moment later) words v.sessions → KeepsWork words v (server_ticked v later)
-moment_keeps v words later store settled covers = keeps_settled v words (at_moment v.shared later) (λ i s at outside.
+moment_keeps v words later store settled covers = keeps_settled v words _ (λ i s at outside.
     let none = covers i s at outside in (
       timeless v.shared later s store none (one_of_all (IsSettled v.shared) i v.sessions s settled at),
-      never_due later s none ∙ sym (never_due v.shared.now s none),
+      never_due later s none ∙ sym (never_due _ s none),
     ))
 
 -- A change of the store leaves the connections settled that it does not concern.
@@ -196,8 +185,8 @@ calm_after shared c (Some hash) words es i s is covers at outside settled =
 change_keeps : (v : ServerValue) (words : List ℕ) (c : Change) (hash : ℕ) → Some hash ≡ change_hash c
     → AreSettled v.shared v.sessions → Covers (cause.Path hash) words v.sessions
     → KeepsWork words v (server_settled (record v { shared = shared_changed v.shared c }))
-change_keeps v words c hash is settled covers = keeps_settled v words (shared_changed v.shared c) (λ i s at outside. (
-  calm_after v.shared c (Some hash) words v.sessions i s is covers at outside
+change_keeps v words c hash is settled covers = keeps_settled v words _ (λ i s at outside. (
+  calm_after v.shared c (Some hash) words _ i s is covers at outside
       (one_of_all (IsSettled v.shared) i v.sessions s settled at),
   refl,
 ))
@@ -225,22 +214,21 @@ module _ (v : ServerValue) (id i : ℕ) (s : SessionValue) (piece : List ℕ) (s
       → IfSome found (λ hash. Covers (cause.Path hash) words with_it) → (k other : ℕ) → other ≢ id
       → LiesAt other k v.sessions → IsOutside words k → IsSame v (server_taken_so v id took) other
   other_same found words is covers k other apart there outside =
-      let one = one_at other k v.sessions there in
+      let one = one_at other k _ there in
       let was = there.found ∙ one.1 in
       let now = other_stays other id (λ _. took.session) v.sessions apart ∙ was in
-      let keys = keys_where_one_changed id (λ _. took.session) v.sessions in
+      let keys = keys_where_one_changed id (λ _. took.session) _ in
       let at = sym (lies_still other k v.sessions with_it keys there).found ∙ now in
-      stays_there v (shared_changed v.shared took.change) with_it other one.0 was now
+      stays_there v _ with_it other one.0 was now
       (calm_after v.shared took.change found words with_it k one.0 is covers at outside
-      (one_of_all (IsSettled v.shared) k v.sessions one.0 settled one.1)) refl
+      (one_of_all (IsSettled v.shared) k _ one.0 settled one.1)) refl
 
   pub taken_adds : (after : SessionValue) (found : Option ℕ) (before words : List ℕ) → after ≡ took.session
       → found ≡ change_hash took.change → AddsConcerned found before words (set_value_at v.sessions i after)
       → AddsAffected id before words v (server_taken v id piece)
   unfolding server_taken
   taken_adds after found before words after_is is adds =
-      let written : set_value_at v.sessions i after ≡ with_it =
-      cc (
+      let written : set_value_at v.sessions i after ≡ with_it = cc (
         after_is,
         written_at_index (λ _. took.session) v.sessions i s here,
         changed_one id (λ _. took.session) v.sessions i lies.distinct lies.index lies.within,
@@ -256,14 +244,14 @@ module _ (v : ServerValue) (id i : ℕ) (s : SessionValue) (piece : List ℕ) (s
 taken_settled : (v : ServerValue) (id i : ℕ) (piece : List ℕ) → LiesAt id i v.sessions
     → AreSettled (server_taken v id piece).shared (server_taken v id piece).sessions
 unfolding server_taken
-taken_settled v id i piece lies = rw (lies.found ∙ (one_at id i v.sessions lies).1) (all_are_settled _ _)
+taken_settled v id i piece lies = rw (lies.found ∙ (one_at id i _ lies).1) (all_are_settled _ _)
 
 -- The response of the application may be given after it.
 pub adds_offered : (v : ServerValue) (id i : ℕ) (piece bytes before words : List ℕ) → LiesAt id i v.sessions
     → AddsAffected id before words v (server_taken v id piece) → AddsAffected id before words v (server_offered
     (server_taken v id piece) id bytes)
 adds_offered v id i piece bytes before words lies adds =
-    let offered = offered_keeps (server_taken v id piece) id bytes (taken_settled v id i piece lies) in
+    let offered = offered_keeps _ id bytes (taken_settled v id i piece lies) in
     record {
       keys = offered.keys ∙ adds.keys;
       kept = adds.kept;
@@ -294,8 +282,7 @@ pub one_reported : {id at : ℕ} {before words : List ℕ} {v now after : Server
 one_reported {id = id} {at = at} {before = before} {words = words} {v = v} {now = now} here adds so =
     let still : (i other : ℕ) → LiesAt other i v.sessions → LiesAt other i now.sessions =
     λ i other there. lies_still other i v.sessions now.sessions so.keeps.keys there in
-    let apart : (i other : ℕ) → LiesAt other i v.sessions → IsOutside words i → other ≢ id =
-    λ i other there outside is.
+    let apart : (i other : ℕ) → LiesAt other i v.sessions → IsOutside words i → other ≢ id = λ i other there outside is.
     let place : i ≡ at = rw is at (sym (still i other there).index) ∙ here.index in
     so.own (rw place at (adds.kept i outside)) in
     record {
@@ -303,12 +290,127 @@ one_reported {id = id} {at = at} {before = before} {words = words} {v = v} {now 
       keeps = record {
         keys = adds.keys ∙ so.keeps.keys;
         same =
-            λ i other there outside.
-            adds.same i other (apart i other there outside) (still i other there) outside
+            λ i other there outside. adds.same i other (apart i other there outside) (still i other there) outside
             ∙ so.keeps.same i other there (adds.kept i outside);
         work =
-            λ i other there outside.
-            adds.work i other (apart i other there outside) (still i other there) outside
+            λ i other there outside. adds.work i other (apart i other there outside) (still i other there) outside
             ∙ so.keeps.work i other there (adds.kept i outside);
       };
     }
+
+-- The earliest of the deadlines of connections, by a search that skips those without a deadline.
+
+-- ---- the earlier of two times
+
+sooner_none : (d : Option ℕ) → sooner d None ≡ d
+sooner_none d = grind arith
+
+sooner_assoc : (d e f : Option ℕ) → sooner (sooner d e) f ≡ sooner d (sooner e f)
+sooner_assoc d e f = grind arith
+
+before_parts : (later : ℕ) (d e : Option ℕ) → IsBefore later (sooner d e) → IsBefore later d × IsBefore later e
+before_parts later d e before = grind arith
+
+-- ---- the connections from an index on
+
+-- The earliest deadline of the connections from an index on.
+unfoldable pub earliest_from : ℕ → Entries → ℕ → Option ℕ
+earliest_from now [] i = None
+earliest_from now (e ∷ es) zero = sooner (due_on now e.1) (earliest_from now es zero)
+earliest_from now (e ∷ es) (suc i) = earliest_from now es i
+
+pub from_first : (now : ℕ) (es : Entries) → earliest_from now es 0 ≡ earliest_deadline now es
+unfolding earliest_from earliest_deadline
+from_first now [] = refl
+from_first now (e ∷ es) = ap (sooner (due_on now e.1)) (from_first now es)
+
+from_end : (now : ℕ) (es : Entries) (i : ℕ) → length es ≤ i → earliest_from now es i ≡ None
+unfolding earliest_from
+from_end now [] i end = refl
+from_end now (e ∷ es) zero end = absurd (omega arith)
+from_end now (e ∷ es) (suc i) end = from_end now es i (omega arith)
+
+from_one : (now : ℕ) (es : Entries) (i : ℕ) (s : SessionValue) → slice_get (values_of es) i ≡ Some s
+    → earliest_from now es i ≡ sooner (due_on now s) (earliest_from now es (suc i))
+unfolding earliest_from
+from_one now [] i s at = absurd cc
+from_one now (e ∷ es) zero s at = let same : e.1 ≡ s = cc in rw same
+from_one now (e ∷ es) (suc i) s at = from_one now es i s at
+
+-- The connections between two indices have no deadline.
+from_later : (now : ℕ) (es : Entries) (a b : ℕ) → a ≤ b
+    → ((i : ℕ) (s : SessionValue) → a ≤ i → i < b → slice_get (values_of es) i ≡ Some s → due_on now s ≡ None)
+    → earliest_from now es a ≡ earliest_from now es b
+unfolding earliest_from
+from_later now [] a b less none = refl
+from_later now (e ∷ es) zero zero less none = refl
+from_later now (e ∷ es) zero (suc b) less none =
+    rw (none zero e.1 (omega arith) (omega arith) refl) (from_later now es zero b (omega arith)
+    (λ i s after before at. none (suc i) s (omega arith) (omega arith) at))
+from_later now (e ∷ es) (suc a) zero less none = absurd (omega arith)
+from_later now (e ∷ es) (suc a) (suc b) less none =
+    from_later now es a b (omega arith) (λ i s after before at. none (suc i) s (omega arith) (omega arith) at)
+
+-- ---- the search
+
+-- The indices from one up to another do not belong to the set.
+gap_skipped : (now : ℕ) (es : Entries) (words : List ℕ) (a b : ℕ) → a ≤ b → Covers (cause.Moment now) words es
+    → ((i : ℕ) → a ≤ i → i < b → IsOutside words i) → earliest_from now es a ≡ earliest_from now es b
+gap_skipped now es words a b less covers gap =
+    from_later now es a b less (λ i s after before at. never_due now s (covers i s at (gap i after before)))
+
+pub search_begins : (now : ℕ) (es : Entries) (words : List ℕ) (b : ℕ) → Covers (cause.Moment now) words es
+    → ((i : ℕ) → 0 ≤ i → i < b → IsOutside words i) → earliest_from now es b ≡ earliest_deadline now es
+search_begins now es words b covers gap =
+    sym (gap_skipped now es words 0 b (omega arith) covers gap) ∙ from_first now es
+
+pub search_continues : (now : ℕ) (es : Entries) (words : List ℕ) (at b : ℕ) (s : SessionValue) (due : Option ℕ)
+    → slice_get (values_of es) at ≡ Some s → at + 1 ≤ b → Covers (cause.Moment now) words es
+    → ((i : ℕ) → at + 1 ≤ i → i < b → IsOutside words i)
+    → sooner due (earliest_from now es at) ≡ earliest_deadline now es
+    → sooner (sooner due (due_on now s)) (earliest_from now es b) ≡ earliest_deadline now es
+search_continues now es words at b s due there less covers gap so =
+    rw (
+      sooner_assoc,
+      ← gap_skipped now es words (at + 1) b less covers gap,
+      add-one at,
+      ← from_one now es at s there,
+    ) so
+
+pub search_ends : (now : ℕ) (es : Entries) (at : ℕ) (due : Option ℕ) → length es ≤ at
+    → sooner due (earliest_from now es at) ≡ earliest_deadline now es → due ≡ earliest_deadline now es
+search_ends now es at due end so = rw (from_end now es at end, sooner_none due) at so
+
+-- ---- a time before the earliest deadline
+
+stay_settled : (shared : ServerState) (later : ℕ) (es : Entries) → IsStore shared.store → AreSettled shared es
+    → shared.now < later → later < 2 ^ 64 → AllByRecursion (λ e. IsBefore later (due_on shared.now e.1)) es
+    → AreSettled (at_moment shared later) es
+stay_settled shared later [] store settled more fits before = tt
+stay_settled shared later (e ∷ es) store settled more fits before = (
+  stays_settled shared later e.1 store settled.0 more fits before.0,
+  stay_settled shared later es store settled.1 more fits before.1,
+)
+
+-- Time alone queues nothing before it is due.
+pub waits_for_what_is_due : (v : ServerValue) (later : ℕ) → IsStore v.shared.store → AreSettled v.shared v.sessions
+    → v.shared.now ≤ later → later < 2 ^ 64 → WaitsForDeadlines v later
+waits_for_what_is_due v later store settled on fits before =
+    let still : AreSettled _ _ = elim (cases_lt _ later) [
+      | inl more ↦ stay_settled v.shared later _ store settled more fits before
+      | inr no_more ↦ let same : v.shared.now ≡ later = omega arith in rw (← same) settled
+    ] in
+    rw (all_settled_stay _ _ still)
+
+each_before : (later now : ℕ) (es : Entries) → IsBefore later (earliest_deadline now es)
+    → AllByRecursion (λ e. IsBefore later (due_on now e.1)) es
+unfolding earliest_deadline
+each_before later now [] before = tt
+each_before later now (e ∷ es) before =
+    let parts = before_parts later (due_on now e.1) _ before in
+    (parts.0, each_before later now es parts.1)
+
+pub waits_for_the_next : (v : ServerValue) (later : ℕ) → IsStore v.shared.store → AreSettled v.shared v.sessions
+    → v.shared.now ≤ later → later < 18446744073709551616 → IsBefore later (next_deadline v) → OnlyTimePasses v later
+waits_for_the_next v later store settled on fits before =
+    waits_for_what_is_due v later store settled on fits (each_before later v.shared.now v.sessions before)

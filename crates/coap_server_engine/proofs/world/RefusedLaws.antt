@@ -1,12 +1,12 @@
 -- A failed allocation in a take: the bytes before the last one of the message make no step. This byte completes the
 -- message, which stores a representation.
-use Rattle.std.proofs.Common.{◌≡◌, ℕ, suc, ◌+◌, ◌<◌, List, [], ◌∷◌, ◌++◌, length, take, drop, get_or, Some, None, refl}
-use Rattle.std.proofs.Common.{sym, ◌∙◌, append_assoc, arith, subst}
+use Rattle.std.proofs.Common.{◌≡◌, ℕ, suc, ◌+◌, ◌<◌, List, [], ◌∷◌, ◌++◌, length, take, drop, get_or, Some, None, sym}
+use Rattle.std.proofs.Common.{◌∙◌, append_assoc, arith, subst}
 use Rattle.coap_server_engine.specs.Prelude.{Message, Stream, split, split_on, IsPut, ConfigValues, SessionValue}
 use Rattle.coap_server_engine.specs.Prelude.{RefusesPiece, ServerValue, session_of, count_taken, Connection, World}
-use Rattle.coap_server_engine.specs.Prelude.{side_of, Handled, AcceptedCall, stream_on, beyond, world_after, size_on}
-use Rattle.coap_server_engine.specs.Prelude.{steps_by, change_made, session_shown, Shows, IsNotTaken, TakeFault}
-use Rattle.coap_server_engine.specs.Prelude.{IsRefusedStored, IsRefusedFor, StoresNothing, ServerState, change_by}
+use Rattle.coap_server_engine.specs.Prelude.{Handled, AcceptedCall, stream_on, beyond, world_after, size_on, steps_by}
+use Rattle.coap_server_engine.specs.Prelude.{change_made, session_shown, Shows, IsNotTaken, TakeFault, IsRefusedStored}
+use Rattle.coap_server_engine.specs.Prelude.{IsRefusedFor, StoresNothing, ServerState, change_by}
 use Rattle.std.proofs.lemmas.Grind.{take_at_read}
 use Rattle.std.proofs.lemmas.List.{take-append-drop}
 use Rattle.std.proofs.Math.Seq.{drop-cons}
@@ -34,8 +34,7 @@ pub record RefusesLast (v : ServerValue) (es : List AcceptedCall) (id : ℕ) (pi
   pub ends : beyond id (stream_on v.config.limits.max_message id es) (gone_on_with v.config es id (take (n + 1) piece))
       ≡ world.Handled id message ∷ []
   pub one_more : split_on (size_on v.config.limits.max_message id es)
-      (gone_on_with v.config es id (take n piece)) (last ∷ [])
-      ≡ record {
+      (gone_on_with v.config es id (take n piece)) (last ∷ []) ≡ record {
         messages = (gone_on_with v.config es id (take n piece)).messages ++ message ∷ [];
         rest = [];
         fault = None;
@@ -64,7 +63,7 @@ refuses_last v es id piece n s shows e refused =
     omega (arith, front_within N so_far.rest piece stored.frame n clean.1 stored.is all) in
     let nothing : Adds M id es front (record { messages = []; rest = so_far.rest ++ front; fault = None }) =
     adds_nothing M id es front clean.0
-    (rw (but_last_unfinished N so_far.rest piece stored.frame n clean.1 stored.is all) refl) in
+    (rw (but_last_unfinished N so_far.rest piece stored.frame n clean.1 stored.is all)) in
     let message : Stream = record { messages = stored.message ∷ []; rest = []; fault = None } in
     let one : Adds M id es (take (n + 1) piece) message =
     rw all at (piece_adds_message M id es piece clean.0 stored.frame stored.message stored.is stored.reads) in
@@ -82,7 +81,7 @@ refuses_last v es id piece n s shows e refused =
         append_assoc so_far.rest front (get_or piece n 0 ∷ []),
         ← (take_at_read piece n 0 within).1,
         spelled,
-      ) refl;
+      );
       stores = rw (at.there, change_shown w.store w.now t stored.message refuses.takes)
           (subst (λ (h : ServerState). IsPut (change_by h (session_shown so_far.rest t).link stored.message))
           (shared_shown v es shows) stored.puts);
@@ -95,14 +94,14 @@ pub refused_is_stored : (v after : ServerValue) (es : List AcceptedCall) (id : �
     → IsNotTaken v id piece (fault.Memory n) after → IsRefusedStored v.config es id piece n
 unfolding count_taken steps_by
 refused_is_stored v after es id piece n shows not =
-    let M : ℕ = v.config.limits.max_message in
-    let refused = refused_on v piece n (session_of id v.sessions) not.0 in
+    let M = v.config.limits.max_message in
+    let refused = refused_on v piece n _ not.0 in
     let last = refuses_last v es id piece n refused.0 shows refused.1 refused.2 in
     record {
       last = rw (← takes_shown v es id piece shows, refused.1) (sym refused.2.last);
-      quiet = rw (stream_more M id es (take n piece)) last.quiet;
+      quiet = rw (stream_more M id es _) last.quiet;
       message = last.message;
-      ends = rw (stream_more M id es (take (n + 1) piece)) last.ends;
+      ends = rw (stream_more M id es _) last.ends;
       stores = last.stores;
     }
 
@@ -117,6 +116,5 @@ other_not_refused v after es id piece n shows nothing not =
 
 pub refused_for : (why : TakeFault) (v new : ServerValue) (id : ℕ) (piece : List ℕ) → IsNotTaken v id piece why new
     → (es : List AcceptedCall) → Shows v es → IsRefusedFor v.config es id piece why
-refused_for fault.NoSuch v new id piece not es shows =
-    none_made _ (side_of id (world_after v.config es).sides) (sym (sessions_shown v es id shows) ∙ not.0)
+refused_for fault.NoSuch v new id piece not es shows = none_made _ _ (sym (sessions_shown v es id shows) ∙ not.0)
 refused_for (fault.Memory n) v new id piece not es shows = refused_is_stored v new es id piece n shows not

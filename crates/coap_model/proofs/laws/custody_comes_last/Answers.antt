@@ -1,7 +1,7 @@
-use Rattle.coap_model.proofs.world.CustodyLaws.{responded_no_custody, Corresponds, corresponds_keeps, custody_waits}
+use Rattle.coap_model.proofs.world.CustodyLaws.{responded_no_custody, corresponds_keeps, custody_waits}
 use Rattle.coap_model.proofs.world.CustodyLaws.{custody_comes_first, request_quiet, plain_queues_no_custody}
 use Rattle.coap_model.proofs.world.WalkLaws.{pending_is, Fault, Write, End, Release, Announcement}
-use Rattle.std.proofs.Common.{arith, refl}
+use Rattle.std.proofs.Common.{arith, refl, rules}
 use Rattle.coap_model.specs.Prelude.{side_after, settled_once}
 use Rattle.coap_model.proofs.world.GoingOn.{kept_after}
 use Rattle.coap_model.proofs.laws.custody_comes_last.Goals as goal
@@ -9,7 +9,7 @@ use Rattle.coap_model.proofs.laws.custody_comes_last.Goals as goal
 pub returns : goal.returns
 unfolding side_after settled_once
 returns c = record {
-  order = λ k. kept_after k (λ s. Corresponds k.applications s.history) (corresponds_keeps k.limits k.applications);
+  order = λ k. search (rules, kept_after, corresponds_keeps);
   at_once = custody_waits;
   later = custody_comes_first;
   pending = λ store now s m d does asks is. grind (arith, request_quiet s m asks, pending_is);

@@ -9,7 +9,7 @@ pub returns : goal.returns
 returns c = record {
   waiting = λ k events id s ranges there.
       let new = first_csm_bytes_small k.limits.max_message in
-      let first : Waits _ = record { is = omega arith; few = omega (arith, new, ranges.sent_low, ranges.queue_low) } in
+      let first : Waits _ = grind arith in
       omega (
         arith,
         (kept_history k Waits first all_wait events id s there).few,

@@ -1,4 +1,4 @@
-use Rattle.std.proofs.Common.{[], sym, inl, arith}
+use Rattle.std.proofs.Common.{arith}
 use Rattle.std.proofs.lemmas.Bool.{cond_both}
 use Rattle.std.proofs.lemmas.List.{append-nil}
 use Rattle.coap_model.specs.Prelude.{handles, KeepsPendingOver, side_after, side_responded, settled_once, link_of}
@@ -14,7 +14,7 @@ unfolding side_after side_responded settled_once
 returns c = record {
   message = λ store now s m. cond_both (handles s) _ s (KeepsPendingOver store.applications m s)
       (λ does. grind (arith, handled_hears store now s m))
-      (λ off. inl ([], sym (append-nil s.history.pending), record { few = omega arith; requested = tt }));
+      (λ off. grind (arith, append-nil));
   faulted = λ s fault. plain_keeps s _ (Fault fault);
   ended = λ s cut. plain_keeps s _ (End cut);
   released = λ s. plain_keeps s _ Release;

@@ -1,4 +1,4 @@
-use Rattle.coap_model.proofs.world.RegistrationLaws.{registration_added, none_added, regular_response}
+use Rattle.coap_model.proofs.world.ResponseLaws.{registration_added, none_added, regular_response}
 use Rattle.coap_model.proofs.laws.registrations_add_observers.Goals as goal
 
 pub returns : goal.returns

@@ -1,8 +1,7 @@
 use Rattle.std.proofs.Common.{[], ◌∷◌, ◌+◌, length, refl, ap, arith, inl, ◌∙◌}
 use Rattle.std.proofs.lemmas.List.{length-append}
 use Rattle.coap_serve.specs.Prelude.{AddsCalls, Times, config_of, known_by, known_of_run, new_server, no_trace}
-use Rattle.coap_serve.specs.Prelude.{service_of, trace_then, turn_trace, views_of}
-use Rattle.coap_serve.specs.listener.Run.{NoneMade, OneMade}
+use Rattle.coap_serve.specs.Prelude.{service_of, trace_then, turn_trace, views_of, NoneMade, OneMade}
 use Rattle.coap_serve.proofs.listener.RunLemmas.{cut_ends, cut_named, memory_ends, nothing_matches, turn_matches}
 use Rattle.coap_serve.proofs.listener.RunLemmas.{turn_named}
 use Rattle.coap_serve.proofs.listener.ServingLemmas.{both_made, none_made}
@@ -15,9 +14,7 @@ loop-turn-init g c = record {
   front = no_trace;
   made = rw (c.in-Ok.ensures.value, c.in-Ok.ensures.none, c.in-Ok.ensures.second, c.in-Ok.ensures.idle) NoneMade;
   counted = refl;
-  matches =
-      nothing_matches (g.C.Clock.moments c.args.clock.now) (g.U.Clock.moments c.args.uptime.now)
-      (g.D.Door.calls c.args.door.now) _;
+  matches = nothing_matches _ _ _ _;
   ready = c.in-Ok.ensures.ready;
   fault = refl;
 }
@@ -28,23 +25,15 @@ loop-turn-preserved g c =
     let times : Times = record { now = c.now-now.result; second = c.now-second.result } in
     let before = service_of c.loop-turn.service.server c.loop-turn.service.peers.entries c.loop-turn.service.second
     c.loop-turn.service.idle in
-    let named = turn_named g.A.Application.follows g.A.Application.idle g.A.Application.waits
-    (views_of g.D.Wire.Ready.readable g.D.Wire.Ready.writable g.D.Wire.Wire.given g.D.Wire.Wire.written
-    g.D.Wire.Wire.answers g.D.Wire.Wire.rooms) c.turn.new.application c.in-Ok-turn.ensures.turn in
+    let named = turn_named _ _ _ (views_of _ _ _ _ _ _) _ c.in-Ok-turn.ensures.turn in
     record {
       ran = both_made so_far.ran c.turn.ensures.ran;
-      front =
-          trace_then so_far.front
-          (turn_trace (length so_far.front.times) c.loop-turn.wait before times named.0 named.1);
-      made = OneMade so_far.front before c.loop-turn.wait times named.0 named.1 _ c.in-Ok-turn.next so_far.made named.4;
+      front = trace_then so_far.front (turn_trace (length so_far.front.times) _ before times named.0 named.1);
+      made = OneMade so_far.front before _ times named.0 named.1 _ _ so_far.made named.4;
       counted = length-append so_far.front.times (times ∷ []) ∙ ap (λ n. n + 1) so_far.counted;
       matches =
-          turn_matches g.C.Clock.moments c.args.clock.now c.loop-turn.clock c.now-now.new.self g.U.Clock.moments
-          c.args.uptime.now c.loop-turn.uptime c.now-second.new.self
-          g.D.Door.calls c.args.door.now c.loop-turn.door c.wait_after_turn.new.door c.turn.new.door so_far.front
-          c.loop-turn.wait before times named.0 named.1
-          so_far.matches so_far.counted c.can_open.ensures c.now-now.ensures c.now-second.ensures
-          c.wait_after_turn.ensures named.2 named.3;
+          turn_matches _ _ _ _ _ _ _ _ _ _ so_far.front _ before times _ _ so_far.matches so_far.counted
+          c.can_open.ensures c.now-now.ensures c.now-second.ensures c.wait_after_turn.ensures named.2 named.3;
       ready = c.in-Ok-turn.ensures.ready;
       fault = so_far.fault;
     }
@@ -78,9 +67,8 @@ returns-clause-run g c =
             last = w.turn.new.self.server;
             ran = both_made so_far.ran w.turn.ensures.ran;
             ends = cut_ends _ _
-                (known_of_run (AddsCalls (g.C.Clock.moments c.args.clock.now) (g.C.Clock.moments w.now-now.new.self))
-                (AddsCalls (g.U.Clock.moments c.args.uptime.now) (g.U.Clock.moments w.now-second.new.self))
-                (AddsCalls (g.D.Door.calls c.args.door.now) (g.D.Door.calls w.turn.new.door))
+                (known_of_run (AddsCalls _ (g.C.Clock.moments w.now-now.new.self))
+                (AddsCalls _ (g.U.Clock.moments w.now-second.new.self)) (AddsCalls _ (g.D.Door.calls w.turn.new.door))
                 (known_by g.M.Monitor.follows g.A.Application.follows c.args.monitor.now w.turn.new.monitor
                 c.args.application.now w.turn.new.application))
                 w.turn.new.self.server w.in-Err.memory w.in-Err.ensures.fault (record {
@@ -94,12 +82,9 @@ returns-clause-run g c =
                   history = named.1;
                   cut = named.4;
                   matches =
-                      turn_matches g.C.Clock.moments c.args.clock.now c.loop-turn.clock w.now-now.new.self
-                      g.U.Clock.moments c.args.uptime.now c.loop-turn.uptime w.now-second.new.self
-                      g.D.Door.calls c.args.door.now c.loop-turn.door w.wait_after_turn.new.door w.turn.new.door
-                      so_far.front c.loop-turn.wait before times named.0 named.1
-                      so_far.matches so_far.counted w.can_open.ensures w.now-now.ensures w.now-second.ensures
-                      w.wait_after_turn.ensures named.2 named.3;
+                      turn_matches _ _ _ _ _ _ _ _ _ _ so_far.front _ before times _ _ so_far.matches so_far.counted
+                      w.can_open.ensures w.now-now.ensures w.now-second.ensures w.wait_after_turn.ensures named.2
+                      named.3;
                 });
           })
     ]
@@ -115,9 +100,5 @@ pub returns-in_default-clause-run : goal.returns-in_default-clause-run
 returns-in_default-clause-run g c = record {
   last = new_server (config_of c.args.setup.config);
   ran = none_made _ refl;
-  ends = inl (
-    nothing_matches (g.C.Clock.moments c.args.clock.now) (g.U.Clock.moments c.args.uptime.now)
-        (g.D.Door.calls c.args.door.now) _,
-    refl,
-  );
+  ends = inl (nothing_matches _ _ _ _, refl);
 }

@@ -7,7 +7,5 @@ use Rattle.coap_serve.proofs.output.greet.Goals as goal
 pub returns-clause-ok : goal.returns-clause-ok
 returns-clause-ok g c = record {
   flushed = c.in-Ok.ensures.ok.flushed;
-  reports =
-      rw append-nil at (followed_then (g.M.Monitor.follows c.args.monitor.now) (g.M.Monitor.follows c.flush.new.monitor)
-      (g.M.Monitor.follows c.turn_ended.new.self) _ [] c.in-Ok.ensures.ok.reports c.turn_ended.ensures.follows);
+  reports = rw append-nil at (followed_then _ _ _ _ [] c.in-Ok.ensures.ok.reports c.turn_ended.ensures.follows);
 }

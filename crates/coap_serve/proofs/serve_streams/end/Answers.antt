@@ -4,17 +4,13 @@ use Rattle.coap_serve.proofs.streams.RunLemmas.{end_stops, end_reported, not_the
 use Rattle.coap_serve.proofs.serve_streams.end.Goals as goal
 
 pub unreachable-requires : goal.unreachable-requires
-unreachable-requires g c =
-    let goes = c.requires.is_at in
-    not_there goes.2 (g.M.Monitor.follows goes.0) (g.M.Monitor.follows c.args.monitor.now) goes.3
-    c.in_default.ensures.answer
+unreachable-requires g c = not_there _ _ c.requires.is_at.3 c.in_default.ensures.answer
 
 pub returns-clause-reason : goal.returns-clause-reason
-returns-clause-reason g c = λ first k bytes goes. c.stop_in.ensures ∙ end_stops k c.ended.new.self bytes goes
+returns-clause-reason g c = λ first k bytes goes. c.stop_in.ensures ∙ end_stops goes
     (ap (λ (v : ServerValue). v.config) c.in-Ok.ensures.ok) c.in-Ok.ensures.shows
 
 pub returns-clause-reported : goal.returns-clause-reported
 returns-clause-reported g c = λ first k bytes goes.
-    end_reported k c.ended.new.self bytes (g.M.Monitor.follows first) (g.M.Monitor.follows c.args.monitor.now)
-    (g.M.Monitor.follows c.accepted.new.self) goes (ap (λ (v : ServerValue). v.config) c.in-Ok.ensures.ok)
+    end_reported _ _ _ goes (ap (λ (v : ServerValue). v.config) c.in-Ok.ensures.ok)
     c.in-Ok.ensures.shows c.accepted.ensures

@@ -1,6 +1,6 @@
 use Rattle.std.proofs.Common.{◌≡◌, ◌≤◌, ◌+◌, ℕ, List, false, length}
 use Rattle.coap_serve.specs.Prelude.{ConfigValues, IsRunningAt, LiesAt, FollowsMore}
-use Rattle.coap_serve.proofs.streams.PieceLemmas.{Serves}
+use Rattle.coap_serve.proofs.streams.TakeLemmas.{Serves}
 use Rattle.coap_serve.proofs.serve_streams.serve_piece.Given as goal
 
 abbrev pub invariant-loop-rest : goal.invariant-loop-rest

@@ -9,16 +9,15 @@ returns-in_err-messages-clause-turn g c = λ first k bytes goes.
     let p = err_from_is_err_and c.from_residual.result c.from_residual.ensures.1 in
     let has = has_read _ _ c.read.new.buffer c.in-Some.count (omega (arith, c.read.auto.buffer, c.requires.room))
     c.in-Some.ensures.within c.if-count-eq0.false c.in-Some.ensures.given in
-    rw (p.1, p.2) (turn_fault k bytes _ c.serve_piece.new.server _ _ c.in_err-messages.field-0.0 has
+    rw (p.1, p.2) (turn_fault k bytes c.serve_piece.new.server _ _ c.in_err-messages.field-0.0 has
     (c.in_err-messages.ensures.served first k bytes goes))
 
 pub returns-clause-turn : goal.returns-clause-turn
 returns-clause-turn g c = λ first k bytes goes.
-    let has = has_read _ _ c.read.new.buffer c.in-Some.count (omega (arith, c.read.auto.buffer, c.requires.room))
-    c.in-Some.ensures.within c.if-count-eq0.false c.in-Some.ensures.given in
-    turn_piece k bytes _ c.serve_piece.new.server _ _ _ _ goes.number has
-    (c.in_ok-messages.ensures.served first k bytes goes)
-    (sym (length-take-le c.in-Some.count c.read.new.buffer c.in-Some.ensures.within)) c.stop_in.ensures
+    let has = has_read _ _ _ _ (omega (arith, c.read.auto.buffer, c.requires.room)) c.in-Some.ensures.within
+    c.if-count-eq0.false c.in-Some.ensures.given in
+    turn_piece _ goes.number has (c.in_ok-messages.ensures.served first k bytes goes)
+    (sym (length-take-le _ _ c.in-Some.ensures.within)) c.stop_in.ensures
 
 pub returns-in_err-messages-clause-read : goal.returns-in_err-messages-clause-read
 returns-in_err-messages-clause-read g c =

@@ -1,4 +1,4 @@
-use Rattle.coap_server_engine.proofs.world.RequestFates.{lent_is_handed}
+use Rattle.coap_server_engine.proofs.world.HandledLaws.{lent_is_handed}
 use Rattle.coap_server_engine.proofs.laws.lent_requests_are_handed_over.Goals as goal
 
 pub returns : goal.returns

@@ -1,5 +1,4 @@
-use Rattle.coap_server_engine.proofs.scripting.CutTakes.{fed_in_parts}
-use Rattle.coap_server_engine.proofs.scripting.CutScripts.{text_of_lines, cuts_alike_servers, same_lines}
+use Rattle.coap_server_engine.proofs.scripting.CutScripts.{fed_in_parts, text_of_lines, cuts_alike_servers, same_lines}
 use Rattle.coap_server_engine.proofs.laws.script_segmentation_is_irrelevant.Goals as goal
 
 pub returns : goal.returns

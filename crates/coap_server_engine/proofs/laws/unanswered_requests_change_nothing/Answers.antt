@@ -1,5 +1,5 @@
 use Rattle.std.proofs.Common.{◌≡◌}
-use Rattle.coap_server_engine.proofs.values.UnansweredLemmas.{unanswered_is_alone}
+use Rattle.coap_server_engine.proofs.values.ServingLemmas.{unanswered_is_alone}
 use Rattle.coap_server_engine.proofs.laws.unanswered_requests_change_nothing.Goals as goal
 
 pub returns : goal.returns

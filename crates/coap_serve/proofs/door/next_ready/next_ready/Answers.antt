@@ -7,7 +7,7 @@ pub loop-at-init : goal.loop-at-init
 loop-at-init g c = (
   c.next-at.ensures.from,
   omega (arith, c.next-at.ensures.within, c.len.ensures.len),
-  sleepers_skipped g.W.Ready.readable g.W.Ready.writable c.requires.asleep c.next-at.ensures.asleep,
+  sleepers_skipped c.requires.asleep c.next-at.ensures.asleep,
 )
 
 pub loop-at-preserved : goal.loop-at-preserved
@@ -19,7 +19,7 @@ loop-at-preserved g c =
       omega (arith, c.loop-at.invariant.0, c.next-at-in-loop-at.ensures.from),
       omega (arith, c.next-at-in-loop-at.ensures.within, c.len-in-loop-at.ensures.len),
       each_on c.loop-at.at c.loop-at.invariant.2 (rw looked.1 looked.3)
-          (sleepers_skipped readable writable c.requires.asleep c.next-at-in-loop-at.ensures.asleep),
+          (sleepers_skipped c.requires.asleep c.next-at-in-loop-at.ensures.asleep),
     )
 
 pub returns-then-is_ready-clause-next : goal.returns-then-is_ready-clause-next

@@ -2,9 +2,8 @@ use Rattle.std.proofs.Common.{ap, arith, length, map, refl, ◌+◌, ◌≤◌, 
 use Rattle.std.proofs.lemmas.List.{length-map}
 use Rattle.std.proofs.lemmas.Option.{slice_get-map}
 use Rattle.coap_serve.specs.Prelude.{PeerInterest, peer_status}
-use Rattle.coap_serve.proofs.listener.LookLemmas.{calm_wait, none_idle, one_idle, opened_wait, ready_wait}
-use Rattle.coap_serve.proofs.listener.LookLemmas.{sleepers_idle}
-use Rattle.coap_serve.proofs.listener.SleepLemmas.{looked_at, one_looked, sleepers_rest}
+use Rattle.coap_serve.proofs.listener.SleepLemmas.{calm_wait, none_idle, one_idle, opened_wait, ready_wait}
+use Rattle.coap_serve.proofs.listener.SleepLemmas.{sleepers_idle, looked_at, one_looked, sleepers_rest}
 use Rattle.coap_serve.proofs.door.next_ready.next_wait.Goals as goal
 
 pub returns-then-opens-clause-wait : goal.returns-then-opens-clause-wait
@@ -14,20 +13,13 @@ pub loop-at-init : goal.loop-at-init
 loop-at-init g c =
     let readable = g.W.Ready.readable in
     let writable = g.W.Ready.writable in
-    let all = map (peer_status readable writable c.args.server.now) c.args.peers.now.entries in
-    let within : c.next-at.result ≤ length c.args.peers.now.entries = omega (
-      arith,
-      c.next-at.ensures.within,
-      c.len.ensures.len,
-    ) in (
+    let all = map (peer_status readable writable c.args.server.now) _ in
+    let within : c.next-at.result ≤ length c.args.peers.now.entries =
+    omega (arith, c.next-at.ensures.within, c.len.ensures.len) in (
       within,
-      sleepers_idle 0 c.next-at.result (omega arith) (omega (
-        arith,
-        within,
-        length-map c.args.peers.now.entries
-            (peer_status readable writable c.args.server.now),
-      )) (sleepers_rest readable writable c.requires.asleep
-          c.next-at.ensures.asleep) (none_idle {all = all}),
+      sleepers_idle 0 _ (omega arith)
+          (omega (arith, within, length-map c.args.peers.now.entries (peer_status readable writable c.args.server.now)))
+          (sleepers_rest c.requires.asleep c.next-at.ensures.asleep) (none_idle {all = all}),
       c.requires.asleep,
     )
 
@@ -45,12 +37,11 @@ loop-at-preserved g c =
       c.next-at-in-loop-at.ensures.within,
       c.len-in-loop-at.ensures.len,
     ) in
-    let asleep = one_looked readable writable c.loop-at.invariant.2 c.loop-at.at looked.1 looked.3 due
+    let asleep = one_looked c.loop-at.invariant.2 c.loop-at.at looked.1 looked.3 due
     c.record_look.ensures.asleep c.record_look.ensures.awake in (
       within,
       sleepers_idle (c.loop-at.at + 1) c.next-at-in-loop-at.result c.next-at-in-loop-at.ensures.from
-          (omega (arith, within, length-map entries status)) (sleepers_rest readable writable asleep
-          c.next-at-in-loop-at.ensures.asleep)
+          (omega (arith, within, length-map entries status)) (sleepers_rest asleep c.next-at-in-loop-at.ensures.asleep)
           (one_idle c.loop-at.at (slice_get-map status entries c.loop-at.at ∙ rw looked.1 refl) looked.3
           (rw due at c.sooner-due.ensures) c.loop-at.invariant.1),
       asleep,

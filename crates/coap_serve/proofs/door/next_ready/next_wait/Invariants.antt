@@ -1,6 +1,6 @@
 use Rattle.std.proofs.Common.{◌-◌, ◌≤◌, length, map}
 use Rattle.coap_serve.specs.Prelude.{AreAsleep, peer_status}
-use Rattle.coap_serve.proofs.listener.LookLemmas.{IsIdleTo}
+use Rattle.coap_serve.proofs.listener.SleepLemmas.{IsIdleTo}
 use Rattle.coap_serve.proofs.door.next_ready.next_wait.Given as goal
 
 -- Nothing can be done on the connections before the next one, and `due` is their earliest deadline.

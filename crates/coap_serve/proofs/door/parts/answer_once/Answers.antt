@@ -14,9 +14,8 @@ returns-in_default-index_of-clause-kept g c =
 pub returns-clause-kept : goal.returns-clause-kept
 returns-clause-kept g c =
     let requested = c.in-Some.ensures.requested in
-    sleep_woken c.in-Some.id c.in-Some-index_of.at
-    (rw requested.server (offered_keeps c.args.server.now c.in-Some.id requested.bytes c.in-Some.ensures.settled))
+    sleep_woken _ _ (rw requested.server (offered_keeps _ _ requested.bytes c.in-Some.ensures.settled))
     c.in-Some-index_of.ensures.at c.wake.ensures.awake c.wake.ensures.asleep
 
 pub returns-clause-requested : goal.returns-clause-requested
-returns-clause-requested g c = (Some c.in-Some.id, refl, c.in-Some.ensures.requested)
+returns-clause-requested g c = (Some _, refl, c.in-Some.ensures.requested)

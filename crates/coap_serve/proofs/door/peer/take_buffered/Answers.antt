@@ -5,16 +5,10 @@ use Rattle.coap_serve.proofs.door.peer.take_buffered.Goals as goal
 
 pub returns-then-has_stopped-clause-taken : goal.returns-then-has_stopped-clause-taken
 returns-then-has_stopped-clause-taken g c =
-    taken_in_part g.A.Application.follows c.args.application.now c.take_all_for-taken.new.application _ _ c.args.id
-    c.in-Ok.served.count c.args.rest.now
-    (rw c.bytes.ensures at c.in-Ok.ensures.served)
-    (none_kept (stop_on (session_of c.args.id c.take_all_for-taken.new.self.sessions)) _
+    taken_in_part _ _ _ _ _ _ _ _ (rw c.bytes.ensures at c.in-Ok.ensures.served) (none_kept (stop_on (session_of _ _)) _
     (sym c.has_stopped.ensures ∙ c.if-has_stopped.true) c.clear.ensures)
 
 pub returns-else-has_stopped-clause-taken : goal.returns-else-has_stopped-clause-taken
 returns-else-has_stopped-clause-taken g c =
-    taken_in_part g.A.Application.follows c.args.application.now c.take_all_for-taken.new.application _ _ c.args.id
-    c.in-Ok.served.count c.args.rest.now
-    (rw c.bytes.ensures at c.in-Ok.ensures.served)
-    (rest_kept (stop_on (session_of c.args.id c.take_all_for-taken.new.self.sessions))
+    taken_in_part _ _ _ _ _ _ _ _ (rw c.bytes.ensures at c.in-Ok.ensures.served) (rest_kept (stop_on (session_of _ _))
     (sym c.has_stopped.ensures ∙ c.if-has_stopped.false) c.advance.ensures)

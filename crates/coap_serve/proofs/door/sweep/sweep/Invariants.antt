@@ -1,6 +1,6 @@
 use Rattle.std.proofs.Common.{◌-◌, ◌≤◌, length, take, drop}
 use Rattle.coap_serve.specs.Prelude.{ArePaired, known_by, swept}
-use Rattle.coap_serve.proofs.listener.SweepLemmas.{IsSweptTo}
+use Rattle.coap_serve.proofs.listener.RoundLemmas.{IsSweptTo}
 use Rattle.coap_serve.proofs.door.sweep.sweep.Given as goal
 
 -- The connections before the next one were swept.

@@ -3,6 +3,6 @@ use Rattle.coap_server_engine.proofs.index_set.IndexSet.join.Goals as goal
 
 pub returns : goal.returns
 returns c = record {
-  outside = joined_outside c.args.self.now.words c.args.other.now.words;
-  only = outside_joined c.args.self.now.words c.args.other.now.words;
+  outside = joined_outside _ c.args.other.now.words;
+  only = outside_joined _ c.args.other.now.words;
 }

@@ -6,8 +6,7 @@ use Rattle.coap_server_engine.proofs.server.Server.answer_next.Goals as goal
 -- The application has no response now.
 pub returns-in_err-id-clause-requested : goal.returns-in_err-id-clause-requested
 returns-in_err-id-clause-requested g c =
-    rw c.from_residual.ensures
-    (refl, (followed_none (g.M.Monitor.follows c.args.monitor.now), c.in_err-id.ensures.offered))
+    rw c.from_residual.ensures (refl, (followed_none _, c.in_err-id.ensures.offered))
 
 pub returns-in_err-id-clause-none : goal.returns-in_err-id-clause-none
 returns-in_err-id-clause-none g c = rw c.from_residual.ensures c.in_err-id.ensures.none
@@ -24,8 +23,7 @@ returns-clause-requested g c =
       shows = e.shows;
       reports = e.reported;
       exchanged =
-          rw c.deref.ensures.value
-          (answers_then (g.A.Application.follows c.args.application.now)
-          (g.A.Application.follows c.next_response.new.self) (g.A.Application.follows c.responded.new.self) _ _
+          rw c.deref.ensures.value (answers_then _
+          (g.A.Application.follows c.next_response.new.self) _ _ _
           c.in_ok-id.ensures.offered c.responded.ensures);
     }

@@ -8,13 +8,13 @@ of_path-requires c = c.self.invariant.covered.many
 pub returns : goal.returns
 returns c =
     let set = c.of_path.result.now in
-    let covers = c.self.invariant.covered.paths c.hash_of.result set c.of_path.ensures in
+    let covers = c.self.invariant.covered.paths _ set c.of_path.ensures in
     let v = server_value c.self.inside in
     rw (← c.self.view_is) (record {
       put =
-          put_keeps v set.words c.args.path.now c.hash_of.result c.hash_of.ensures
+          put_keeps v set.words _ c.hash_of.result c.hash_of.ensures
           c.self.invariant.server.settled covers;
       removed =
-          removed_keeps v set.words c.args.path.now c.hash_of.result c.hash_of.ensures
+          removed_keeps v set.words _ c.hash_of.result c.hash_of.ensures
           c.self.invariant.server.settled covers;
     })

@@ -5,5 +5,5 @@ use Rattle.coap_server_engine.proofs.server.Server.concerned_by_time.Goals as go
 pub returns : goal.returns
 returns c later =
     rw (← c.self.view_is)
-    (moment_keeps (server_value c.self.inside) c.self.inside.sets.time.words later c.count.ensures.store
+    (moment_keeps _ c.self.inside.sets.time.words later c.count.ensures.store
     c.self.invariant.server.settled (c.self.invariant.covered.time later))

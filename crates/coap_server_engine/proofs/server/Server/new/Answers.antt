@@ -1,11 +1,10 @@
 use Rattle.std.proofs.Common.{Ok, [], arith, rules}
-use Rattle.coap_server_engine.proofs.world.CallLaws.{new_shows}
+use Rattle.coap_server_engine.proofs.world.ShowLaws.{new_shows}
 use Rattle.coap_server_engine.proofs.server.Server.new.Goals as goal
 
 pub invariant_of-result : goal.invariant_of-result
 invariant_of-result c =
-    rw c.in_ok-sessions.ensures.empty
-    (record {
+    rw c.in_ok-sessions.ensures.empty (record {
       server = record { settled = tt; numbered = tt; few = omega arith };
       marked = tt;
       covered = c.in_ok-sets.ensures [];
@@ -14,5 +13,4 @@ invariant_of-result c =
 pub returns-clause-shows : goal.returns-clause-shows
 returns-clause-shows c =
     new_shows {F = Unit {0}} (Ok _) c.args.config (omega (arith, c.open.ensures.moment))
-    (rw c.starts-starts.ensures.alone tt)
-    (search rules)
+    (rw c.starts-starts.ensures.alone tt) (search rules)

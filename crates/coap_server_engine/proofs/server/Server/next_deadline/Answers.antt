@@ -1,7 +1,7 @@
 use Rattle.std.proofs.Common.{refl}
 use Rattle.coap_server_engine.specs.Prelude.{server_value}
 use Rattle.coap_server_engine.proofs.values.ConcernedLemmas.{covered_time}
-use Rattle.coap_server_engine.proofs.values.DeadlineLemmas.{waits_for_the_next}
+use Rattle.coap_server_engine.proofs.values.WorkLemmas.{waits_for_the_next}
 use Rattle.coap_server_engine.proofs.server.Server.next_deadline.Goals as goal
 
 pub earliest_deadline-requires : goal.earliest_deadline-requires
@@ -11,7 +11,7 @@ pub invariant_of-self : goal.invariant_of-self
 invariant_of-self c = record {
   server = c.self.invariant.server;
   marked = c.self.invariant.marked;
-  covered = covered_time c.self.inside.sets _ _ refl (λ _. c.earliest_deadline.ensures.covered)
+  covered = covered_time _ _ _ refl (λ _. c.earliest_deadline.ensures.covered)
       c.self.invariant.covered;
 }
 

@@ -1,26 +1,22 @@
 use Rattle.std.proofs.Common.{rules}
-use Rattle.coap_server_engine.proofs.values.ServerLemmas.{still_unmarked, changed_or_not}
-use Rattle.coap_server_engine.proofs.world.CallLaws.{release_shows}
-use Rattle.coap_server_session.proofs.values.ConcernLemmas.{released_adds}
-use Rattle.coap_server_engine.proofs.values.ConcernedLemmas.{covered_changed_or_not}
-use Rattle.coap_server_engine.proofs.server.Server.release.Goals as goal
 use Rattle.coap_server_engine.specs.Prelude.{session_released}
+use Rattle.coap_server_session.proofs.values.ConcernLemmas.{released_adds}
+use Rattle.coap_server_engine.proofs.values.ConcernedLemmas.{called_if_ok}
+use Rattle.coap_server_engine.proofs.world.ShowLaws.{release_shows}
+use Rattle.coap_server_engine.proofs.server.Server.release.Goals as goal
 
 pub invariant_of-self : goal.invariant_of-self
 invariant_of-self c =
     let e = c.release_at.ensures in
-    let err = still_unmarked c.release_at.result _ _ e.err in
-    record {
-      server = (changed_or_not c.release_at.result _ c.self.view_is c.self.invariant.server c.in-Some.ensures.some
-          e.ok err).0;
-      marked = e.marked;
-      covered =
-          covered_changed_or_not c.release_at.result _ _ _ _ _ _ released_adds e.ok err c.self.invariant.covered;
-    }
+    assumption (
+      called_if_ok _ _ session_released released_adds
+          c.self.view_is c.self.invariant c.in-Some.ensures.some e.ok e.err,
+      e,
+    )
 
 pub returns : goal.returns
 returns c =
     let e = c.release_at.ensures in
-    let ok = (changed_or_not c.release_at.result session_released c.self.view_is c.self.invariant.server
-    c.in-Some.ensures.some e.ok (still_unmarked c.release_at.result _ _ e.err)).1 in
-    search (rules, ok, release_shows c.release_at.result c.args.self.now _ c.args.id (search rules) ok)
+    let ok = (called_if_ok _ _ session_released released_adds
+    c.self.view_is c.self.invariant c.in-Some.ensures.some e.ok e.err).value in
+    search (rules, ok, release_shows _ _ _ _ (search rules) ok)

@@ -1,13 +1,13 @@
 use Rattle.std.proofs.Common.{rules, Some, ap, refl, sym}
 use Rattle.coap_server_engine.proofs.values.ServerLemmas.{settled_server}
-use Rattle.coap_server_engine.proofs.world.CallLaws.{remove_shows}
+use Rattle.coap_server_engine.proofs.world.ShowLaws.{remove_shows}
 use Rattle.coap_store.specs.Answer as store_change
 use Rattle.coap_server_engine.proofs.server.Server.remove.Goals as goal
-use Rattle.coap_server_engine.proofs.values.ServerCauseLemmas.{calm_after}
+use Rattle.coap_server_engine.proofs.values.ConcernedLemmas.{calm_after}
 
 pub settle_observers-requires : goal.settle_observers-requires
 settle_observers-requires c =
-    let calm = calm_after c.self.inside.shared _ (store_change.Delete c.args.path.now) c.hash_of-hash.result
+    let calm = calm_after _ _ (store_change.Delete c.args.path.now) _
     c.self.inside.sessions.entries (rw c.in_ok-remove.ensures.ok refl) (ap Some (sym c.hash_of-hash.ensures))
     c.self.invariant.server.settled c.self.invariant.marked in
     record { covered = c.self.invariant.covered; settled = calm.0; marked = calm.1 }
@@ -22,4 +22,4 @@ invariant_of-self-2 c =
     }
 
 pub returns-clause-shows : goal.returns-clause-shows
-returns-clause-shows c = remove_shows c.args.self.now _ c.args.path.now (search rules) (search rules)
+returns-clause-shows c = remove_shows _ _ c.args.path.now (search rules) (search rules)

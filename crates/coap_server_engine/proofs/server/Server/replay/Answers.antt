@@ -9,13 +9,13 @@ use Rattle.coap_server_engine.proofs.server.Server.replay.Goals as goal
 pub loop-index-init : goal.loop-index-init
 unfolding events_ran replayed
 loop-index-init g c = record {
-  replays = record { server_is = refl; written = bytes_none _; shown = shows_same c.args.self.now _ refl };
+  replays = record { server_is = refl; written = bytes_none _; shown = shows_same _ _ refl };
   works = c.requires;
 }
 
 pub returns-in_default : goal.returns-in_default
 returns-in_default g c =
-    let here = is_at c.args.events.now _ _ c.loop-index-test.true c.index-events-index.is in
+    let here = is_at _ _ _ c.loop-index-test.true c.index-events-index.is in
     let so_far = c.loop-index.invariant.replays in
     search (
       rules,
@@ -27,14 +27,14 @@ returns-in_default g c =
 pub returns-in_default-write_parts-clause-replayed : goal.returns-in_default-write_parts-clause-replayed
 returns-in_default-write_parts-clause-replayed g c =
     cut_at c.loop-index.invariant.replays
-    (is_at c.args.events.now _ _ c.loop-index-test.true c.index-events-index.is) _ _ _ c.in-Ok.ensures.run
+    (is_at _ _ _ c.loop-index-test.true c.index-events-index.is) _ _ _ c.in-Ok.ensures.run
     c.in-Ok.ensures.shows (rw c.parts.ensures at c.in_default-write_parts.ensures.part)
 
 pub loop-index-preserved : goal.loop-index-preserved
 loop-index-preserved g c = record {
   replays =
       one_replayed c.loop-index.invariant.replays
-      (is_at c.args.events.now _ _ c.loop-index-test.true c.index-events-index.is) _ _ _ c.in-Ok.ensures.run
+      (is_at _ _ _ c.loop-index-test.true c.index-events-index.is) _ _ _ c.in-Ok.ensures.run
       c.in-Ok.ensures.shows (rw c.parts.ensures at c.in-Ok-write_parts.ensures.ok);
   works = c.in-Ok-write_parts.ensures.failure;
 }

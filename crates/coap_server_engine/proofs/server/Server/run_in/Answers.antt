@@ -21,7 +21,7 @@ returns c =
     e.listed ∙ ap (λ (xs : List ℕ). xs ++ request_lines c.args.self.now c.args.id c.args.bytes.now)
     c.new-requests.ensures.items in
     rw it.1 (record {
-      run = (e.after, rw (← e.count, ← e.after, ← c.stop_number-stop.ensures, ← c.in_line-line.ensures, ← lines) refl);
+      run = (e.after, rw (← e.count, ← e.after, ← c.stop_number-stop.ensures, ← c.in_line-line.ensures, ← lines));
       shows = e.shows;
     })
 

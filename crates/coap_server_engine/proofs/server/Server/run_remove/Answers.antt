@@ -14,7 +14,7 @@ returns-then-not-can_remove c =
 
 pub returns-in_err-line : goal.returns-in_err-line
 returns-in_err-line c =
-    let event = Remove c.args.path.now c.args.text.now in
+    let event = Remove _ _ in
     record {
       run = unrun _ event _ _ c.from_residual.ensures.0 (
         none_where _ (sym c.can_remove.ensures ∙ c.if-not-can_remove.false),

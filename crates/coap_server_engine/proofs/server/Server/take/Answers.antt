@@ -5,4 +5,4 @@ use Rattle.coap_server_engine.proofs.server.Server.take.Goals as goal
 
 pub returns-in_default-clause-refused_for : goal.returns-in_default-clause-refused_for
 returns-in_default-clause-refused_for c =
-    refused_for taking.NoSuch c.args.self.now c.args.self.now c.args.id c.args.piece.now (search rules)
+    refused_for taking.NoSuch _ c.args.self.now _ c.args.piece.now (search rules)

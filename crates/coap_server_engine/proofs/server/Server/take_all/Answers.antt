@@ -14,7 +14,7 @@ loop-taken-init c =
 
 pub loop-taken-preserved : goal.loop-taken-preserved
 loop-taken-preserved c =
-    let t = rw (rest_of c.loop-taken.taken c.args.bytes.now) at c.in-Ok.ensures in (
+    let t = rw (rest_of _ c.args.bytes.now) at c.in-Ok.ensures in (
       feeds_more c.loop-taken.invariant.0 c.loop-taken-test.true _ _ t.within t.count c.if-piece-eq0.false t.ok
           (rw ((there_is _ t.there).1, ← t.count) t.shows),
       t.lies,
@@ -23,11 +23,10 @@ loop-taken-preserved c =
 -- A take accepted no byte.
 pub returns-then-piece-eq0 : goal.returns-then-piece-eq0
 returns-then-piece-eq0 c =
-    let t = rw (rest_of c.loop-taken.taken c.args.bytes.now) at c.in-Ok.ensures in
+    let t = rw (rest_of _ c.args.bytes.now) at c.in-Ok.ensures in
     let feeds = c.loop-taken.invariant.0 in
     let none = sym t.count ∙ c.if-piece-eq0.true in
-    rw (stops_there feeds c.loop-taken-test.true _ none t.ok).0
-    (search (
+    rw (stops_there feeds c.loop-taken-test.true _ none t.ok).0 (search (
       rules,
       stopped_shows feeds c.loop-taken-test.true _ none t.ok (rw ((there_is _ t.there).1, ← t.count) t.shows),
     ))
@@ -38,8 +37,7 @@ unfolding server_taken count_taken
 returns-in-Err-NoSuch c =
     let no = rw c.in-Err-NoSuch.field-0-is at c.in-Err-NoSuch.ensures.refused in
     let feeds = c.loop-taken.invariant.0 in
-    rw (stops_there feeds c.loop-taken-test.true c.take_at.new.self (rw no.0) (rw no.0 no.1)).0
-    (search (
+    rw (stops_there feeds c.loop-taken-test.true c.take_at.new.self (rw no.0) (rw no.0 no.1)).0 (search (
       rules,
       stopped_shows feeds c.loop-taken-test.true c.take_at.new.self (rw no.0) (rw no.0 no.1)
           (rw no.0 (shows_same _ _ no.1)),
@@ -47,7 +45,7 @@ returns-in-Err-NoSuch c =
 
 pub returns-in-Err-Memory : goal.returns-in-Err-Memory
 returns-in-Err-Memory c =
-    let e = rw (c.in-Err-Memory.field-0-is, rest_of c.loop-taken.taken c.args.bytes.now) at c.in-Err-Memory.ensures in
+    let e = rw (c.in-Err-Memory.field-0-is, rest_of _ c.args.bytes.now) at c.in-Err-Memory.ensures in
     search (
       rules,
       short c.loop-taken.invariant.0 c.loop-taken-test.true _ _ e.refused,

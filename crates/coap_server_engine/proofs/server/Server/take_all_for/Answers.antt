@@ -12,20 +12,20 @@ use Rattle.coap_server_engine.proofs.server.Server.take_all_for.Goals as goal
 pub returns-in_default-clause-served : goal.returns-in_default-clause-served
 returns-in_default-clause-served g c =
     rw c.in_default.ensures.same
-    (serves_nobody c.args.self.now c.args.id c.args.bytes.now (g.M.Monitor.follows c.args.monitor.now)
-    (g.A.Application.follows c.args.application.now) c.in_default.ensures.none)
+    (serves_nobody _ c.args.id _ (g.M.Monitor.follows c.args.monitor.now)
+    _ c.in_default.ensures.none)
 
 pub loop-taken-init : goal.loop-taken-init
 loop-taken-init g c =
     let lies = c.in-Some.ensures.at in
     rw c.in-Some.ensures.same (record {
       serves =
-          serves_nothing c.args.self.now c.args.id c.args.bytes.now (g.M.Monitor.follows c.args.monitor.now)
-          (g.A.Application.follows c.args.application.now)
-          (is_there_at c.args.id c.in-Some.at c.args.self.now.sessions lies);
+          serves_nothing _ c.args.id _ (g.M.Monitor.follows c.args.monitor.now)
+          _
+          (is_there_at c.args.id _ c.args.self.now.sessions lies);
       lies = lies;
       reported =
-          none_reported c.in-Some.at c.insert.new.self.words c.args.self.now c.args.self.now refl c.insert.ensures.set;
+          none_reported _ c.insert.new.self.words _ c.args.self.now refl c.insert.ensures.set;
       capacity = omega arith;
       room = c.requires;
     })
@@ -44,8 +44,8 @@ returns-in_err-count-clause-room g c =
 -- A take accepted no byte.
 pub returns-then-count-eq0-clause-served : goal.returns-then-count-eq0-clause-served
 returns-then-count-eq0-clause-served g c =
-    let e = rw (rest_of c.loop-taken.taken c.args.bytes.now) at c.in_ok-count.ensures in
-    serves_stopped c.loop-taken.invariant.serves c.loop-taken-test.true (g.M.Monitor.follows c.take_for.new.monitor)
+    let e = rw (rest_of _ c.args.bytes.now) at c.in_ok-count.ensures in
+    serves_stopped c.loop-taken.invariant.serves c.loop-taken-test.true _
     (g.A.Application.follows c.take_for.new.application) e.count e.ok c.if-count-eq0.true
 
 pub returns-then-count-eq0-clause-room : goal.returns-then-count-eq0-clause-room
@@ -76,8 +76,7 @@ returns-in_default-clause-affected g c =
 
 pub returns-then-count-eq0-clause-affected : goal.returns-then-count-eq0-clause-affected
 returns-then-count-eq0-clause-affected g c =
-    (one_reported c.loop-taken.invariant.lies c.in_ok-count.ensures.affected
-    c.loop-taken.invariant.reported).keeps
+    (one_reported c.loop-taken.invariant.lies c.in_ok-count.ensures.affected c.loop-taken.invariant.reported).keeps
 
 pub returns-clause-affected : goal.returns-clause-affected
 returns-clause-affected g c = c.loop-taken.invariant.reported.keeps

@@ -1,6 +1,6 @@
 use Rattle.std.proofs.Common.{◌-◌, length}
 use Rattle.coap_server_engine.specs.Prelude.{LiesAt}
-use Rattle.coap_server_engine.proofs.scripting.ListedLemmas.{Lists}
+use Rattle.coap_server_engine.proofs.scripting.ReplayLemmas.{Lists}
 use Rattle.coap_server_engine.proofs.server.Server.take_all_listed.Given as goal
 
 abbrev pub invariant-loop-taken : goal.invariant-loop-taken

@@ -1,4 +1,4 @@
-use Rattle.std.proofs.Common.{ℕ, take, ap, arith, refl, sym}
+use Rattle.std.proofs.Common.{take, ap, arith, refl, sym}
 use Rattle.coap_server_engine.specs.Prelude.{WasRefused, WasTaken}
 use Rattle.coap_server_engine.proofs.values.ResponseLemmas.{token_made}
 use Rattle.coap_server_engine.proofs.values.ServingLemmas.{taken_stays, taken_requested, taken_silent}
@@ -17,13 +17,13 @@ slice_bounds-took-end-in-Err-Memory g c =
 pub accepted-requires : goal.accepted-requires
 accepted-requires g c =
     let t = c.in-Ok.ensures in
-    WasTaken c.args.self.now c.args.received.bytes.now t.ok
-    (ap (λ (n : ℕ). take n c.args.received.bytes.now) t.count) t.handled
+    WasTaken _ c.args.received.bytes.now t.ok
+    (ap (λ n. take n c.args.received.bytes.now) t.count) t.handled
 
 pub accepted-requires-in-Err-Memory : goal.accepted-requires-in-Err-Memory
 accepted-requires-in-Err-Memory g c =
     let e = rw (c.in-Err-Memory.field-0-is) at c.in-Err-Memory.ensures in
-    WasRefused c.args.self.now c.args.received.bytes.now _ e.refused refl refl
+    WasRefused _ c.args.received.bytes.now _ e.refused refl refl
 
 -- The application was asked.
 pub returns-in-Some-clause-ok : goal.returns-in-Some-clause-ok
@@ -31,9 +31,9 @@ returns-in-Some-clause-ok g c =
     let e = c.in-Ok.ensures in
     let made = token_made _ _ (sym (rw c.in-Some.is at e.token)) in
     let given = rw c.deref.ensures.value at c.give_at_once.ensures in
-    taken_requested (g.M.Monitor.follows c.args.monitor.now) (g.M.Monitor.follows c.accepted.new.self)
-    (g.M.Monitor.follows c.give_at_once.new.monitor) (g.A.Application.follows c.args.application.now)
-    (g.A.Application.follows c.take_and_ask.new.application) e.ok e.shows c.accepted.ensures e.requested made.0
+    taken_requested _ (g.M.Monitor.follows c.accepted.new.self)
+    _ (g.A.Application.follows c.args.application.now)
+    _ e.ok e.shows c.accepted.ensures e.requested made.0
     c.in-Some.token.items made.1 made.2 given.after given.shows given.reported
 
 -- The application was not asked, or there is no request.
@@ -46,15 +46,15 @@ returns-in_default-clause-ok g c =
     (rw c.in_default.is at e.unrequested)
 
 pub give_at_once-requires : goal.give_at_once-requires
-give_at_once-requires g c = rw c.in-Ok.ensures.ok (taken_stays c.args.self.now _ _ _ c.requires.lies)
+give_at_once-requires g c = rw c.in-Ok.ensures.ok (taken_stays _ _ _ _ c.requires.lies)
 
 pub returns-in_default-clause-lies : goal.returns-in_default-clause-lies
-returns-in_default-clause-lies g c = rw c.in-Ok.ensures.ok (taken_stays c.args.self.now _ _ _ c.requires.lies)
+returns-in_default-clause-lies g c = rw c.in-Ok.ensures.ok (taken_stays _ _ _ _ c.requires.lies)
 
 pub returns-in-Some-clause-affected : goal.returns-in-Some-clause-affected
 returns-in-Some-clause-affected g c =
     rw (c.give_at_once.ensures.after, c.in-Ok.ensures.ok)
-    (adds_offered c.args.self.now _ _ _ _ _ _ c.requires.lies c.in-Ok.ensures.affected)
+    (adds_offered _ _ _ _ _ _ _ c.requires.lies c.in-Ok.ensures.affected)
 
 pub returns-in_default-clause-affected : goal.returns-in_default-clause-affected
 returns-in_default-clause-affected g c = rw c.in-Ok.ensures.ok c.in-Ok.ensures.affected

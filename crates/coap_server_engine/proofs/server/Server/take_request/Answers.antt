@@ -7,21 +7,9 @@ use Rattle.coap_server_engine.proofs.world.RefusedLaws.{refused_for}
 -- No connection has this id.
 pub returns-in_default : goal.returns-in_default
 returns-in_default c =
-    let none : session_of c.args.id c.args.self.now.sessions ≡ None =
-    rw (← c.self.view_is) c.in_default.ensures.none in (
-      (refl, (λ _. tt), ((none, refl), λ es shows. shows)),
-      record {
-        after = tt;
-        within = tt;
-        count = tt;
-        takes = tt;
-        handled = tt;
-        says = tt;
-        there = tt;
-        frame = tt;
-        request = tt;
-        changed = tt;
-        alters = tt;
-        refused_for = refused_for taking.NoSuch c.args.self.now c.args.self.now c.args.id c.args.piece.now (none, refl);
-      },
+    let none : session_of c.args.id c.args.self.now.sessions ≡ None = rw (← c.self.view_is) c.in_default.ensures.none in
+    assumption (
+      none,
+      refused_for taking.NoSuch c.args.self.now c.args.self.now c.args.id c.args.piece.now
+          (none, refl),
     )

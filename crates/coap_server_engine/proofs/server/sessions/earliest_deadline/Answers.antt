@@ -4,7 +4,7 @@ use Rattle.coap_server_engine.specs.Prelude.{unmarked, unmarked_entry}
 use Rattle.coap_server_session.specs.declared.cause.Cause.TheVariants as cause
 use Rattle.coap_server_engine.proofs.values.ServerLemmas.{unmarked_at}
 use Rattle.coap_server_engine.proofs.values.ConcernedLemmas.{covers_removed}
-use Rattle.coap_server_engine.proofs.values.DeadlineLemmas.{search_begins, search_continues, search_ends}
+use Rattle.coap_server_engine.proofs.values.WorkLemmas.{search_begins, search_continues, search_ends}
 use Rattle.coap_server_engine.proofs.server.sessions.earliest_deadline.Goals as goal
 
 pub loop-at-init : goal.loop-at-init
@@ -13,7 +13,7 @@ loop-at-init c =
     let e = c.next-at.ensures in (
       omega (arith, e.within, c.len-end.ensures),
       c.requires,
-      search_begins c.args.now (unmarked es) _ _ c.requires e.between,
+      search_begins _ _ _ _ c.requires e.between,
     )
 
 pub loop-at-preserved : goal.loop-at-preserved
@@ -39,6 +39,6 @@ pub returns : goal.returns
 returns c =
     let es = c.args.sessions.now.entries in record {
       covered = c.loop-at.invariant.1;
-      earliest = search_ends c.args.now (unmarked es) c.loop-at.at c.loop-at.due
+      earliest = search_ends _ _ _ _
           (omega (arith, c.loop-at-test.false, c.len-end.ensures, length-map es unmarked_entry)) c.loop-at.invariant.2;
     }

@@ -2,7 +2,7 @@ use Rattle.std.proofs.Common.{◌≡◌, ◌≤◌, ◌-◌, length}
 use Rattle.coap_server_engine.specs.Prelude.{Covers, unmarked, earliest_deadline}
 use Rattle.coap_server_session.specs.Prelude.{sooner}
 use Rattle.coap_server_session.specs.declared.cause.Cause.TheVariants as cause
-use Rattle.coap_server_engine.proofs.values.DeadlineLemmas.{earliest_from}
+use Rattle.coap_server_engine.proofs.values.WorkLemmas.{earliest_from}
 use Rattle.coap_server_engine.proofs.server.sessions.earliest_deadline.Given as goal
 
 -- The earliest of the deadlines so far, and of those from the index on, is that of all.

@@ -5,6 +5,6 @@ use Rattle.coap_server_engine.proofs.server.sessions.is_at.Goals as goal
 
 pub returns-in-Some : goal.returns-in-Some
 returns-in-Some c same =
-    let key : c.in-Some.key.now ≡ c.args.id = eqb-true _ _ same in
+    let key = eqb-true _ _ same in
     let there = rw (c.as_slice.ensures.entries, key) at (sym c.in-Some.ensures.entry) in
-    lies_at_key c.args.id c.args.at c.in-Some.field-0-1.now c.args.sessions.now.entries c.as_slice.ensures.unique there
+    lies_at_key c.args.id _ c.in-Some.field-0-1.now _ c.as_slice.ensures.unique there

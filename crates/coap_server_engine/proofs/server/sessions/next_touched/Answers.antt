@@ -1,8 +1,7 @@
-use Rattle.std.proofs.Common.{◌≡◌, ◌+◌, length, arith}
+use Rattle.std.proofs.Common.{◌≡◌, length, arith}
 use Rattle.coap_server_engine.specs.Prelude.{unmarked}
 use Rattle.coap_server_engine.proofs.values.ServerLemmas.{unmarked_at}
-use Rattle.coap_server_engine.proofs.values.ServerCauseLemmas.{none_passed, one_passed}
-use Rattle.coap_server_engine.proofs.values.ConcernedLemmas.{gap_untouched, covers_removed}
+use Rattle.coap_server_engine.proofs.values.ConcernedLemmas.{none_passed, one_passed, gap_untouched, covers_removed}
 use Rattle.coap_server_engine.proofs.server.sessions.next_touched.Goals as goal
 
 pub loop-at-init : goal.loop-at-init
@@ -25,15 +24,14 @@ loop-at-preserved c =
     let e = c.is_touched.ensures in
     let calm = c.if-is_touched.false in
     let removed = c.remove_unless.ensures in
-    let covers =
-    covers_removed why _ _ c.loop-at.at (unmarked es) _ _ (unmarked_at es c.loop-at.at _ c.index-session.ensures)
+    let covers = covers_removed why _ _ _ _ _ _ (unmarked_at es _ _ c.index-session.ensures)
     c.may_be_touched.ensures removed.kept removed.others c.loop-at.invariant.2.1 in
-    let passed = one_passed why c.args.now c.args.from c.loop-at.at es _ c.index-session.ensures
+    let passed = one_passed why _ _ _ es _ c.index-session.ensures
     (e.untouched calm, e.unmarked calm) c.loop-at.invariant.2.0 in
     let next = c.next-at-in-loop-at.ensures in (
       omega (arith, next.from, c.loop-at.invariant.0),
       omega (arith, next.within, c.len-end.ensures),
-      (gap_untouched why c.args.now c.args.from (c.loop-at.at + 1) _ _ es covers next.between passed, covers),
+      (gap_untouched why _ _ _ _ _ es covers next.between passed, covers),
     )
 
 pub loop-at-smaller : goal.loop-at-smaller
@@ -41,6 +39,5 @@ loop-at-smaller c = omega (arith, c.next-at-in-loop-at.ensures.from, c.loop-at-t
 
 pub returns-clause-none : goal.returns-clause-none
 returns-clause-none c =
-    let end : c.loop-at.at ≡ length c.args.sessions.now.entries =
-    omega (arith, c.loop-at-test.false, c.len-end.ensures, c.loop-at.invariant.1) in
+    let end : c.loop-at.at ≡ length _ = omega (arith, c.loop-at-test.false, c.len-end.ensures, c.loop-at.invariant.1) in
     rw end at c.loop-at.invariant.2.0

@@ -4,9 +4,9 @@ use Rattle.coap_server_session.specs.declared.cause.Cause.TheVariants as cause
 use Rattle.coap_server_engine.proofs.values.ServerLemmas.{splits_written, written_unmarked, set_unmarked, unmarked_at}
 use Rattle.coap_server_engine.proofs.values.ServerLemmas.{all_written}
 use Rattle.coap_server_session.proofs.values.CauseLemmas.{but_none}
-use Rattle.coap_server_engine.proofs.values.ServerCauseLemmas.{others_untouched, all_settle}
+use Rattle.coap_server_engine.proofs.values.ConcernedLemmas.{others_untouched, all_settle, covered_changed_by}
+use Rattle.coap_server_engine.proofs.values.ConcernedLemmas.{covered_one_marked}
 use Rattle.coap_server_session.proofs.values.ConcernLemmas.{pending_adds}
-use Rattle.coap_server_engine.proofs.values.ConcernedLemmas.{covered_changed_by, covered_one_marked}
 use Rattle.coap_server_engine.proofs.server.sessions.settle_after.Goals as goal
 
 pub note-requires : goal.note-requires
@@ -38,18 +38,18 @@ pub settle_observers-requires : goal.settle_observers-requires
 settle_observers-requires c =
     let shared = c.args.shared.now in
     let es = c.args.sessions.now.entries in
-    let why = cause.Path c.in-Some.hash in
+    let why = cause.Path _ in
     let now = c.settle.new.self in
     let e = c.settle.ensures in
-    let others = others_untouched shared c.args.at c.in-Some.hash _ _ _
+    let others = others_untouched shared c.args.at _ _ _ _
     (unmarked_at es c.args.at _ c.index_mut-in-Some.ensures.value) e.after (rw c.in-Some.is at c.requires.others) in
     record {
       covered =
-          covered_one_marked _ shared c.args.at es _ now c.index_mut-in-Some.ensures.value e.after
+          covered_one_marked _ shared _ es _ now c.index_mut-in-Some.ensures.value e.after
           (c.note.ensures _ (unmarked_at es c.args.at _ c.index.ensures) c.requires.covered);
-      settled = rw (set_unmarked es c.args.at now now.session refl) others;
+      settled = rw (set_unmarked es _ now now.session refl) others;
       marked =
-          all_written (IsMarkedBut why shared) es c.args.at now (rw c.in-Some.is at c.requires.marked)
+          all_written (IsMarkedBut why shared) es _ now (rw c.in-Some.is at c.requires.marked)
           (but_none why shared now e.marked);
     }
 
@@ -58,17 +58,17 @@ returns-in-Some c =
     let es = c.args.sessions.now.entries in
     let now = c.settle.new.self in
     let e = c.settle_observers.ensures in
-    let covered = c.note.ensures _ (unmarked_at es c.args.at _ c.index.ensures) c.requires.covered in
-    let all = all_settle c.args.shared.now c.args.at c.in-Some.hash _ _ _
-    (unmarked_at es c.args.at _ c.index_mut-in-Some.ensures.value) c.settle.ensures.after in
+    let covered = c.note.ensures _ (unmarked_at es _ _ c.index.ensures) c.requires.covered in
+    let all = all_settle c.args.shared.now _ c.in-Some.hash _ _ _
+    (unmarked_at es _ _ c.index_mut-in-Some.ensures.value) c.settle.ensures.after in
     rw c.in-Some.is (record {
       affected = record {
         kept = λ i outside. (c.join.ensures.outside i outside).0;
-        covers = λ i s at outside. covered.paths c.in-Some.hash c.of_path.result.now c.of_path.ensures i s at
+        covers = λ i s at outside. covered.paths c.in-Some.hash _ c.of_path.ensures i s at
             (c.join.ensures.outside i outside).1;
       };
       splits =
-          e.splits ∙ splits_written es c.args.at c.index_mut-in-Some.result.now now c.index_mut-in-Some.ensures.value
+          e.splits ∙ splits_written es c.args.at _ now c.index_mut-in-Some.ensures.value
           c.settle.ensures.split;
       after = rw (e.after, set_unmarked es c.args.at now now.session refl) all;
       marked = e.marked;
@@ -77,4 +77,4 @@ returns-in-Some c =
 
 pub of_path-requires : goal.of_path-requires
 of_path-requires c =
-    (c.note.ensures _ (unmarked_at c.args.sessions.now.entries c.args.at _ c.index.ensures) c.requires.covered).many
+    (c.note.ensures _ (unmarked_at _ c.args.at _ c.index.ensures) c.requires.covered).many

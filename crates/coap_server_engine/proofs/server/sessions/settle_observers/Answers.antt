@@ -13,7 +13,7 @@ settle_touched-requires c =
     let within : c.from.result < length sets.paths.items = omega (arith, c.requires.covered.many, c.from.ensures) in
     record {
       covered =
-          c.requires.covered.paths c.args.hash set (rw c.from.ensures at
+          c.requires.covered.paths _ set (rw c.from.ensures at
           (slice_get_read sets.paths.items _ c.from.result set refl within c.index_mut.ensures.value));
       settled = c.requires.settled;
       marked = c.requires.marked;
@@ -24,11 +24,11 @@ returns c =
     let e = c.settle_touched.ensures in
     let sets = c.args.sets.now in
     let set = c.settle_touched.new.set in
-    let es = unmarked c.settle_touched.new.sessions.entries in
+    let es = unmarked _ in
     let now : Concerned = record { paths = with_item sets.paths c.from.result set; time = sets.time } in
     record {
       covered =
-          covered_path sets now c.from.result set es refl refl
+          covered_path sets now _ set es refl refl
           (length-set sets.paths.items c.from.result set ∙ c.requires.covered.many) (rw c.from.ensures e.covered)
           (covered_settled sets _ _ es e.after c.requires.covered);
       after = e.after;

@@ -1,6 +1,6 @@
 use Rattle.std.proofs.Common.{refl, arith, length, ◌∙◌}
 use Rattle.coap_server_engine.proofs.values.ServerLemmas.{splits_written, length-written}
-use Rattle.coap_server_engine.proofs.values.ServerCauseLemmas.{AreUpTo, next_but, passed, one_more, none_left}
+use Rattle.coap_server_engine.proofs.values.ConcernedLemmas.{AreUpTo, next_but, passed, one_more, none_left}
 use Rattle.coap_server_engine.proofs.values.ConcernedLemmas.{covers_one_marked}
 use Rattle.coap_server_engine.proofs.server.sessions.settle_touched.Goals.{After-index_mut}
 use Rattle.coap_server_engine.proofs.server.sessions.settle_touched.Goals as goal
@@ -13,15 +13,15 @@ next_touched-requires c = record { from = c.loop-at.invariant.0; covered = c.loo
 
 -- The connections before the one that was found are settled.
 up_to_found : (c : After-index_mut)
-    → AreUpTo c.in-Some.at c.args.cause c.args.shared.now c.args.sessions.now.entries c.loop-at.sessions.entries
+    → AreUpTo c.args.cause c.args.shared.now c.in-Some.at c.args.sessions.now.entries c.loop-at.sessions.entries
 up_to_found c =
     let e = c.in-Some.ensures in
-    passed c.loop-at.from c.in-Some.at c.args.cause c.args.shared.now c.args.sessions.now.entries
+    passed _ c.args.shared.now _ c.in-Some.at _
     c.loop-at.sessions.entries e.from (omega (arith, e.within)) c.loop-at.invariant.1.0 c.requires.settled e.some
 
 pub mark_and_settle-requires : goal.mark_and_settle-requires
 mark_and_settle-requires c =
-    (next_but c.in-Some.at c.args.cause c.args.shared.now _ c.loop-at.sessions.entries _ (up_to_found c)
+    (next_but c.args.cause c.args.shared.now c.in-Some.at _ c.loop-at.sessions.entries _ (up_to_found c)
     c.index_mut.ensures.value).1
 
 pub loop-at-preserved : goal.loop-at-preserved
@@ -31,7 +31,7 @@ loop-at-preserved c =
     let e = c.mark_and_settle.ensures in (
       omega (arith, c.in-Some.ensures.within, length-written es c.in-Some.at after),
       (
-        one_more c.in-Some.at c.args.cause c.args.shared.now c.args.sessions.now.entries es _ after
+        one_more c.args.cause c.args.shared.now c.in-Some.at c.args.sessions.now.entries es _ after
             (up_to_found (goal.at.loop-at-preserved c).After-index_mut) c.index_mut.ensures.value e.after e.marked,
         (
           splits_written es c.in-Some.at _ after c.index_mut.ensures.value e.split ∙ c.loop-at.invariant.1.1.0,
@@ -53,7 +53,7 @@ loop-at-smaller c =
 pub returns : goal.returns
 returns c =
     let es = c.loop-at.sessions.entries in
-    let up = passed c.loop-at.from (length es) c.args.cause c.args.shared.now c.args.sessions.now.entries es
+    let up = passed _ c.args.shared.now _ (length es) _ es
     c.loop-at.invariant.0 (omega arith) c.loop-at.invariant.1.0 c.requires.settled c.in_default.ensures.none in
-    let all = none_left (length es) c.args.cause c.args.shared.now c.args.sessions.now.entries es (omega arith) up in
+    let all = none_left _ c.args.shared.now (length es) _ es (omega arith) up in
     record { after = all.0; marked = all.1; splits = c.loop-at.invariant.1.1.0; covered = c.in_default.ensures.covered }

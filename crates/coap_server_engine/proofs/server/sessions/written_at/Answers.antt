@@ -1,26 +1,20 @@
-use Rattle.coap_server_engine.specs.Prelude.{IsSettled, IsMarked, session_settled, session_written}
-use Rattle.coap_server_engine.proofs.values.ServerLemmas.{written_unmarked, unmarked_at, all_written, one_of_all}
+use Rattle.std.proofs.Common.{refl}
+use Rattle.coap_server_engine.specs.Prelude.{IsSettled, IsMarked, session_written}
+use Rattle.coap_server_engine.proofs.values.ServerLemmas.{settled_call, unmarked_at, one_of_all}
 use Rattle.coap_server_engine.proofs.server.sessions.written_at.Goals as goal
 
 pub written_and_settled-requires : goal.written_and_settled-requires
 written_and_settled-requires c =
     let shared = c.args.shared.now in
-    let es = c.args.sessions.now.entries in
-    let here = c.index_mut.ensures.value in
+    let here = unmarked_at _ c.args.at _ c.index_mut.ensures.value in
     record {
-      within = rw (unmarked_at es c.args.at _ here) at c.requires.waiting;
-      settled = one_of_all (IsSettled shared) c.args.at _ _ c.requires.settled (unmarked_at es c.args.at _ here);
-      marked = one_of_all (IsMarked shared) c.args.at es _ c.requires.marked here;
+      within = rw here at c.requires.waiting;
+      settled = one_of_all (IsSettled shared) _ _ _ c.requires.settled here;
+      marked = one_of_all (IsMarked shared) _ _ _ c.requires.marked c.index_mut.ensures.value;
     }
 
 pub returns : goal.returns
 returns c =
-    let shared = c.args.shared.now in
-    let es = c.args.sessions.now.entries in
     let e = c.written_and_settled.ensures in
-    record {
-      after =
-          written_unmarked (λ s. session_settled shared (session_written s c.args.count)) es c.args.at _ _
-          c.index_mut.ensures.value e.after;
-      marked = all_written (IsMarked shared) es c.args.at _ c.requires.marked e.marked;
-    }
+    assumption (settled_call (λ s. session_written s c.args.count) c.written_and_settled.new.self c.requires.marked
+    c.index_mut.ensures.value refl e.after e.marked)

@@ -1,17 +1,12 @@
-use Rattle.coap_serve.proofs.listener.LaterLemmas.{not_requested}
 use Rattle.coap_serve.proofs.listener.SleepLemmas.{asleep_on, paired_on}
 use Rattle.coap_serve.proofs.listener.ConfigLemmas.{keeps_room, later_config}
 use Rattle.coap_serve.proofs.door.service.Service.answer_later.Goals as goal
-
-pub returns-then-not-answers-clause-shows : goal.returns-then-not-answers-clause-shows
-returns-then-not-answers-clause-shows g c =
-    not_requested (g.M.Monitor.follows c.args.monitor.now) (g.A.Application.follows c.args.application.now)
 
 pub invariant_of-self : goal.invariant_of-self
 invariant_of-self g c = record {
   paired = λ ready. paired_on (c.args.self.now.paired ready) c.answer_each-count.ensures.kept.keys;
   room = keeps_room (later_config c.answer_each-count.ensures.shows.given) c.answer_each-count.ensures.capacity
       c.args.self.now.room;
-  asleep = λ ready. asleep_on g.W.Ready.readable g.W.Ready.writable c.answer_each-count.ensures.kept
+  asleep = λ ready. asleep_on c.answer_each-count.ensures.kept
       (c.args.self.now.paired ready) (c.args.self.now.asleep ready);
 }

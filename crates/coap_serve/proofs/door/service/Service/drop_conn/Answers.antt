@@ -9,13 +9,12 @@ use Rattle.coap_serve.proofs.door.service.Service.drop_conn.Goals as goal
 pub accepted-requires : goal.accepted-requires
 accepted-requires g c =
     let sessions = c.args.self.now.server.sessions in
-    work_left c.args.self.now.server.shared.now (session_of c.args.id sessions)
-    (sym (is_there_at c.args.id _ sessions c.in-Some.ensures.at))
+    work_left _ (session_of _ sessions) (sym (is_there_at c.args.id _ sessions c.in-Some.ensures.at))
 
 pub invariant_of-self : goal.invariant_of-self
 invariant_of-self g c = record {
-  paired = λ ready. paired_left (c.args.self.now.paired ready) c.args.id _ c.drop_conn.ensures.settled
+  paired = λ ready. paired_left (c.args.self.now.paired ready) _ _ c.drop_conn.ensures.settled
       c.in-Some.ensures.at c.in-Ok.ensures.ok c.shift_remove.ensures.entries c.shift_remove.ensures.unique;
   room = keeps_room (ap (λ v. v.config) c.in-Ok.ensures.ok) (omega arith) c.args.self.now.room;
-  asleep = λ ready. none_asleep g.W.Ready.readable g.W.Ready.writable c.wake_all.ensures;
+  asleep = λ ready. none_asleep c.wake_all.ensures;
 }

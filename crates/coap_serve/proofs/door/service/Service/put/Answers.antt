@@ -5,12 +5,11 @@ use Rattle.coap_serve.proofs.door.service.Service.put.Goals as goal
 
 pub invariant_of-self : goal.invariant_of-self
 invariant_of-self g c =
-    let kept = kept_or_not c.put.result c.concerned_by.result.words
-    (c.concerned_by.ensures.put c.args.format c.args.bytes.now) c.put.ensures.ok c.put.ensures.err in
+    let kept = kept_or_not _ _ (c.concerned_by.ensures.put _ c.args.bytes.now) c.put.ensures.ok c.put.ensures.err in
     record {
       paired = λ ready. paired_on (c.args.self.now.paired ready) kept.keys;
-      room = keeps_room (config_or_not c.put.result c.args.self.now.server c.put.new.self _ refl c.put.ensures.ok
+      room = keeps_room (config_or_not _ _ _ _ refl c.put.ensures.ok
           c.put.ensures.err) (omega arith) c.args.self.now.room;
-      asleep = λ ready. asleep_on g.W.Ready.readable g.W.Ready.writable (sleep_joined kept c.join.ensures)
+      asleep = λ ready. asleep_on (sleep_joined kept c.join.ensures)
           (c.args.self.now.paired ready) (c.args.self.now.asleep ready);
     }

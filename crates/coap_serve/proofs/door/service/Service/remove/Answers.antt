@@ -5,12 +5,11 @@ use Rattle.coap_serve.proofs.door.service.Service.remove.Goals as goal
 
 pub invariant_of-self : goal.invariant_of-self
 invariant_of-self g c =
-    let kept = kept_or_not c.remove.result c.concerned_by.result.words c.concerned_by.ensures.removed
-    c.remove.ensures.ok c.remove.ensures.err in
+    let kept = kept_or_not _ _ c.concerned_by.ensures.removed c.remove.ensures.ok c.remove.ensures.err in
     record {
       paired = λ ready. paired_on (c.args.self.now.paired ready) kept.keys;
-      room = keeps_room (config_or_not c.remove.result c.args.self.now.server c.remove.new.self _ refl
+      room = keeps_room (config_or_not _ _ _ _ refl
           c.remove.ensures.ok c.remove.ensures.err) (omega arith) c.args.self.now.room;
-      asleep = λ ready. asleep_on g.W.Ready.readable g.W.Ready.writable (sleep_joined kept c.join.ensures)
+      asleep = λ ready. asleep_on (sleep_joined kept c.join.ensures)
           (c.args.self.now.paired ready) (c.args.self.now.asleep ready);
     }

@@ -10,9 +10,8 @@ loop-at-init g c = record {
   done = record {
     history = no_history;
     made =
-        skipped_to _ 0 c.next_ready-at.result (omega arith) c.next_ready-at.ensures.within
-        c.next_ready-at.ensures.skipped (none_served _);
-    accepted = accepted_none _ c.args.self.now.server c.args.self.now.server refl;
+        skipped_to _ 0 _ (omega arith) c.next_ready-at.ensures.within c.next_ready-at.ensures.skipped (none_served _);
+    accepted = accepted_none _ _ _ refl;
   };
   shows = none_made _ refl;
   paired = c.requires.paired;
@@ -32,21 +31,17 @@ loop-at-preserved g c =
       done = record {
         history = history_then so_far.done.history one.history;
         made =
-            skipped_to _ c.in_ok-later.later next.result next.ensures.from next.ensures.within next.ensures.skipped
+            skipped_to _ _ next.result next.ensures.from next.ensures.within next.ensures.skipped
             (one_served _ (rw so_far.times.0 at one.made) so_far.done.made);
         accepted = accepted_then so_far.done.accepted one.accepted;
       };
       shows = both_made so_far.shows c.serve_next.ensures.shows;
       paired = c.in_ok-later.ensures.paired;
       asleep = c.in_ok-later.ensures.asleep;
-      times =
-          (c.serve_next.ensures.times.0 ∙ so_far.times.0, c.serve_next.ensures.times.1 ∙ so_far.times.1);
+      times = (c.serve_next.ensures.times.0 ∙ so_far.times.0, c.serve_next.ensures.times.1 ∙ so_far.times.1);
       spent = c.serve_next.ensures.spent;
       next = next.ensures.next;
     }
-
-pub returns-in_err-later-clause-shows : goal.returns-in_err-later-clause-shows
-returns-in_err-later-clause-shows g c = both_made c.loop-at.invariant.shows c.serve_next.ensures.shows
 
 pub returns-clause-served : goal.returns-clause-served
 returns-clause-served g c =

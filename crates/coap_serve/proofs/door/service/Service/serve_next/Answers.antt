@@ -1,63 +1,30 @@
-use Rattle.std.proofs.Common.{◌≡◌, ◌∙◌, arith, refl, subst}
-use Rattle.coap_serve.specs.Prelude.{MaySleep, journal, peer_status, set_value_at}
-use Rattle.coap_serve.proofs.listener.EntryLemmas.{length_written, set_there}
+use Rattle.std.proofs.Common.{◌≡◌, ◌∙◌, refl, subst}
+use Rattle.coap_serve.specs.Prelude.{MaySleep, peer_status, set_value_at}
+use Rattle.coap_serve.proofs.listener.EntryLemmas.{set_there}
 use Rattle.coap_serve.proofs.listener.RoundLemmas.{one_open, one_over}
-use Rattle.coap_serve.proofs.listener.ServingLemmas.{both_made}
-use Rattle.coap_serve.proofs.listener.SleepLemmas.{asleep_beside, lies_there, looked_at, looked_sleeps, paired_written}
+use Rattle.coap_serve.proofs.listener.SleepLemmas.{asleep_beside, lies_there, looked_at, looked_sleeps}
 use Rattle.coap_serve.proofs.listener.ConfigLemmas.{keeps_room, served_same}
 use Rattle.coap_serve.proofs.door.service.Service.serve_next.Goals as goal
 
 pub serve_peer-requires : goal.serve_peer-requires
 serve_peer-requires g c = record {
-  lies = lies_there c.requires.paired c.args.at c.pair_mut-peer.ensures.value;
+  lies = lies_there c.requires.paired _ c.pair_mut-peer.ensures.value;
   room = c.args.self.now.room;
 }
 
-pub overflow_add-result : goal.overflow_add-result
-overflow_add-result g c = omega (arith, c.requires.there, c.requires.fits)
-
-pub drop_at-requires-clause-paired : goal.drop_at-requires-clause-paired
-drop_at-requires-clause-paired g c =
-    paired_written c.requires.paired c.args.at c.serve_peer.new.peer c.in_ok-served.ensures.kept.keys refl
-
 pub drop_at-requires-clause-reason : goal.drop_at-requires-clause-reason
 drop_at-requires-clause-reason g c =
-    rw (set_there c.args.self.now.peers.entries c.args.at c.serve_peer.new.peer _ _ c.pair_mut-peer.ensures.value)
+    rw (set_there _ _ c.serve_peer.new.peer _ _ c.pair_mut-peer.ensures.value)
     (rw c.in-Over.is at c.in_ok-served.ensures.reason)
-
-pub returns-in-Over-clause-fewer : goal.returns-in-Over-clause-fewer
-returns-in-Over-clause-fewer g c =
-    omega (
-      arith,
-      length_written c.args.self.now.peers.entries c.args.at c.serve_peer.new.peer,
-      c.drop_at.ensures.fewer,
-      c.requires.there,
-    )
 
 pub returns-in-Over-clause-part : goal.returns-in-Over-clause-part
 returns-in-Over-clause-part g c =
-    one_over _ c.args.self.now.server c.serve_peer.new.server c.args.self.now.peers.entries c.args.at
-    c.serve_peer.new.peer c.pair_mut-peer.ensures.value c.requires.ready
-    (journal (g.M.Monitor.follows c.args.monitor.now) (g.A.Application.follows c.args.application.now))
-    (journal (g.M.Monitor.follows c.serve_peer.new.monitor) (g.A.Application.follows c.serve_peer.new.application))
-    c.in_ok-served.served.outcome c.in_ok-served.ensures.part
-    (journal (g.M.Monitor.follows c.drop_at.new.monitor) (g.A.Application.follows c.drop_at.new.application))
-    c.in-Over.is c.drop_at.ensures.peers c.drop_at.ensures.server c.drop_at.ensures.accepted
+    one_over _ c.pair_mut-peer.ensures.value c.requires.ready c.in_ok-served.ensures.part c.in-Over.is
+    c.drop_at.ensures.peers c.drop_at.ensures.server c.drop_at.ensures.accepted
 
 pub returns-in-Open-clause-part : goal.returns-in-Open-clause-part
 returns-in-Open-clause-part g c =
-    one_open _ c.args.self.now.server c.serve_peer.new.server c.args.self.now.peers.entries c.args.at
-    c.serve_peer.new.peer c.pair_mut-peer.ensures.value c.requires.ready
-    (journal (g.M.Monitor.follows c.args.monitor.now) (g.A.Application.follows c.args.application.now))
-    (journal (g.M.Monitor.follows c.serve_peer.new.monitor) (g.A.Application.follows c.serve_peer.new.application))
-    c.in_ok-served.served.outcome c.in_ok-served.ensures.part c.in-Open.is
-
-pub returns-in-Over-clause-shows : goal.returns-in-Over-clause-shows
-returns-in-Over-clause-shows g c = both_made c.serve_peer.ensures.shows c.drop_at.ensures.shows
-
-pub returns-in-Open-clause-paired : goal.returns-in-Open-clause-paired
-returns-in-Open-clause-paired g c =
-    paired_written c.requires.paired c.args.at c.serve_peer.new.peer c.in_ok-served.ensures.kept.keys refl
+    one_open _ c.pair_mut-peer.ensures.value c.requires.ready c.in_ok-served.ensures.part c.in-Open.is
 
 pub returns-in-Open-clause-asleep : goal.returns-in-Open-clause-asleep
 returns-in-Open-clause-asleep g c =
@@ -70,13 +37,11 @@ returns-in-Open-clause-asleep g c =
     let looked = looked_at readable writable c.serve_peer.new.server (set_value_at es c.args.at p) c.args.at
     (rw now c.in_ok-served.ensures.interest) c.index-peer.ensures c.is_ready-is_ready.ensures in
     let entry : looked.0 ≡ (_, p) = cc (looked.1, now) in
-    asleep_beside readable writable c.in_ok-served.served.affected.words c.args.at _ _ p c.in_ok-served.ensures.kept
-    c.requires.paired there refl
-    (λ i apart outside. c.join.ensures i (c.record_look.ensures.asleep i apart outside))
+    asleep_beside c.in_ok-served.served.affected.words c.args.at _ _ p c.in_ok-served.ensures.kept
+    c.requires.paired there refl (λ i apart outside. c.join.ensures i (c.record_look.ensures.asleep i apart outside))
     (λ outside. subst (λ e. MaySleep (peer_status readable writable c.serve_peer.new.server e)) entry
     (looked_sleeps c.record_look.new.self c.args.at (peer_status readable writable c.serve_peer.new.server looked.0) _
-    looked.3 (rw looked.2 at c.record_look.ensures.awake) outside))
-    c.requires.asleep
+    looked.3 (rw looked.2 at c.record_look.ensures.awake) outside)) c.requires.asleep
 
 -- Allocation failed.
 pub invariant_of-self : goal.invariant_of-self

@@ -7,13 +7,12 @@ use Rattle.coap_serve.proofs.door.service.Service.tick.Goals as goal
 
 pub invariant_of-self-2 : goal.invariant_of-self-2
 invariant_of-self-2 g c =
-    let kept = kept_or_not c.tick.result c.concerned_by_time.result.words (c.concerned_by_time.ensures c.args.now)
-    c.tick.ensures.ok c.tick.ensures.err in
+    let kept = kept_or_not _ _ (c.concerned_by_time.ensures _) c.tick.ensures.ok c.tick.ensures.err in
     record {
       paired = λ ready. paired_on (c.args.self.now.paired ready) kept.keys;
-      room = keeps_room (config_or_not c.tick.result c.args.self.now.server c.tick.new.self _ refl c.tick.ensures.ok
+      room = keeps_room (config_or_not _ _ _ _ refl c.tick.ensures.ok
           c.tick.ensures.err) (omega arith) c.args.self.now.room;
-      asleep = λ ready. asleep_on g.W.Ready.readable g.W.Ready.writable (sleep_joined kept c.join.ensures)
+      asleep = λ ready. asleep_on (sleep_joined kept c.join.ensures)
           (c.args.self.now.paired ready) (c.args.self.now.asleep ready);
     }
 
@@ -24,5 +23,4 @@ returns-then-now-moment-clause-moved g c =
 
 pub returns-then-now-moment-clause-reported : goal.returns-then-now-moment-clause-reported
 returns-then-now-moment-clause-reported g c =
-    rw (none_ticked c.args.self.now.server (c.if-now-moment.true ∙ c.moment.ensures.moment))
-    (followed_none (g.M.Monitor.follows c.args.monitor.now))
+    rw (none_ticked c.args.self.now.server (c.if-now-moment.true ∙ c.moment.ensures.moment)) (followed_none _)

@@ -1,31 +1,26 @@
-use Rattle.std.proofs.Common.{ap, refl, sym, ◌∙◌}
+use Rattle.std.proofs.Common.{ap, sym, ◌∙◌}
 use Rattle.std.proofs.lemmas.Result.{err_from_is_err_and}
 use Rattle.coap_serve.specs.Prelude.{service_of, short_wait, wait_within}
 use Rattle.coap_serve.proofs.listener.RunLemmas.{continued_to_end, later_ran, parts_begin, ran_to_end, sweep_ran}
-use Rattle.coap_serve.proofs.listener.RunLemmas.{time_called, time_ran, turn_ran}
-use Rattle.coap_serve.proofs.listener.ServingLemmas.{both_made, continued_then, none_made}
+use Rattle.coap_serve.proofs.listener.RunLemmas.{time_called, time_ran, turn_known, turn_ran}
+use Rattle.coap_serve.proofs.listener.ServingLemmas.{both_made, continued_then}
 use Rattle.coap_serve.proofs.door.service.Service.turn.Goals as goal
-
--- An allocation failed in an earlier turn.
-pub returns-then-self-clause-ran : goal.returns-then-self-clause-ran
-returns-then-self-clause-ran g c = none_made _ refl
 
 pub returns-in_err-next-clause-ran : goal.returns-in_err-next-clause-ran
 returns-in_err-next-clause-ran g c =
     both_made (sweep_ran c.args.self.now.idle c.args.self.now.second c.args.times.second c.args.self.now.peers.entries
     c.end_silent.ensures.swept)
-    (both_made (time_ran c.args.times.now c.tick.ensures.moved
-    (time_called g.M.Monitor.follows c.end_silent.new.monitor c.tick.new.monitor c.tick.result c.args.times.now
-    c.tick.ensures.answer c.tick.ensures.shows c.tick.ensures.reported c.tick.ensures.err))
+    (both_made (time_ran _ c.tick.ensures.moved (time_called g.M.Monitor.follows _ _ _ _ c.tick.ensures.answer
+    c.tick.ensures.shows c.tick.ensures.reported c.tick.ensures.err))
     (both_made (later_ran _ _ _ _ c.answer_later-is_full.ensures.shows) (turn_ran c.visit.ensures.shows)))
 
 pub returns-clause-ran : goal.returns-clause-ran
-returns-clause-ran g c = ran_to_end (
+returns-clause-ran g c =
+    ran_to_end (
     both_made (sweep_ran c.args.self.now.idle c.args.self.now.second c.args.times.second c.args.self.now.peers.entries
     c.end_silent.ensures.swept)
-    (both_made (time_ran c.args.times.now c.tick.ensures.moved
-    (time_called g.M.Monitor.follows c.end_silent.new.monitor c.tick.new.monitor c.tick.result c.args.times.now
-    c.tick.ensures.answer c.tick.ensures.shows c.tick.ensures.reported c.tick.ensures.err))
+    (both_made (time_ran _ c.tick.ensures.moved (time_called g.M.Monitor.follows _ _ _ _ c.tick.ensures.answer
+    c.tick.ensures.shows c.tick.ensures.reported c.tick.ensures.err))
     (both_made (later_ran _ _ _ _ c.answer_later-is_full.ensures.shows) (turn_ran c.visit.ensures.shows))))
     c.turn_ended.ensures.follows
 
@@ -36,14 +31,9 @@ returns-clause-turn g c =
     let later = c.answer_later-is_full in
     let begun =
     parts_begin {follows = g.A.Application.follows} {rests = g.A.Application.idle} {times = c.args.times}
-    {s = service_of v.server v.peers.entries v.second v.idle} (g.M.Monitor.follows c.args.monitor.now)
-    (g.M.Monitor.follows c.end_silent.new.monitor) (g.M.Monitor.follows c.tick.new.monitor)
-    (g.M.Monitor.follows later.new.monitor)
-    (g.A.Application.follows c.args.application.now) c.end_silent.new.application later.new.application
-    c.end_silent.ensures.swept c.tick.ensures.moved
-    (time_called g.M.Monitor.follows c.end_silent.new.monitor c.tick.new.monitor c.tick.result c.args.times.now
-    c.tick.ensures.answer c.tick.ensures.shows c.tick.ensures.reported c.tick.ensures.err).follows
-    later.ensures.shows later.ensures.idle in
+    {s = service_of v.server v.peers.entries v.second v.idle} _ _ _ c.end_silent.ensures.swept c.tick.ensures.moved
+    (time_called g.M.Monitor.follows _ _ _ _ c.tick.ensures.answer
+    c.tick.ensures.shows c.tick.ensures.reported c.tick.ensures.err).follows later.ensures.shows later.ensures.idle in
     let second = later.ensures.times.0 ∙ c.tick.ensures.times.0 ∙ c.end_silent.ensures.second in
     let idle = c.visit.ensures.times.1 ∙ later.ensures.times.1 ∙ c.tick.ensures.times.1 ∙ c.end_silent.ensures.idle in
     let entries =
@@ -55,20 +45,9 @@ returns-clause-turn g c =
       limit = c.wait.result;
       allowed = c.wait.ensures;
       next = c.in_ok-next.next;
-      turn = record {
-        opens = turn.opens;
-        between = turn.between;
-        opened = turn.opened;
-        visits = turn.visits;
-        served = turn.served;
-        waits = turn.waits;
-        accepted = record {
-          shows = turn.accepted.shows;
-          known =
-              continued_then begun.history _ begun.known
-              (continued_to_end turn.accepted.known c.turn_ended.ensures.follows);
-        };
-      };
+      turn =
+          turn_known turn turn.opened.requested (continued_then begun.history _ begun.known
+          (continued_to_end turn.accepted.known c.turn_ended.ensures.follows));
       waits =
           c.at_most_a_second.ensures
           ∙ ap (λ i. short_wait i c.visit.new.self.server.shared.now c.visit.new.self.peers.entries
@@ -83,16 +62,11 @@ returns-clause-turn g c =
 pub returns-in_err-next-clause-cut : goal.returns-in_err-next-clause-cut
 returns-in_err-next-clause-cut g c =
     let p = err_from_is_err_and c.from_residual.result c.from_residual.ensures.1 in
-    let v = c.args.self.now in
     let later = c.answer_later-is_full in
     let begun =
-    parts_begin (g.M.Monitor.follows c.args.monitor.now) (g.M.Monitor.follows c.end_silent.new.monitor)
-    (g.M.Monitor.follows c.tick.new.monitor) (g.M.Monitor.follows later.new.monitor)
-    (g.A.Application.follows c.args.application.now) c.end_silent.new.application later.new.application
-    c.end_silent.ensures.swept c.tick.ensures.moved
-    (time_called g.M.Monitor.follows c.end_silent.new.monitor c.tick.new.monitor c.tick.result c.args.times.now
-    c.tick.ensures.answer c.tick.ensures.shows c.tick.ensures.reported c.tick.ensures.err).follows
-    later.ensures.shows later.ensures.idle in
+    parts_begin (g.M.Monitor.follows c.tick.new.monitor) _ _ c.end_silent.ensures.swept c.tick.ensures.moved
+    (time_called g.M.Monitor.follows _ _ c.tick.result _ c.tick.ensures.answer
+    c.tick.ensures.shows c.tick.ensures.reported c.tick.ensures.err).follows later.ensures.shows later.ensures.idle in
     let cut = c.visit.ensures.shows in
     rw p.1 (λ ready. record {
       start = record { server = later.new.self.server; is_full = later.result; history = begun.history };

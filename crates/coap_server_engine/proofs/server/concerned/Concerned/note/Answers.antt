@@ -4,5 +4,5 @@ use Rattle.coap_server_engine.proofs.server.concerned.Concerned.note.Goals as go
 
 pub returns-else-settle_bound-gt0 : goal.returns-else-settle_bound-gt0
 returns-else-settle_bound-gt0 c =
-    quiet_covered c.args.self.now c.args.at c.args.session.now.session
+    quiet_covered _ c.args.at _
     (omega (arith, c.settle_bound.ensures, c.if-settle_bound-gt0.false))

@@ -6,4 +6,4 @@ pub returns : goal.returns
 returns c =
     let sets = c.args.self.now.paths.items in
     let within : c.from.result < length sets = omega (arith, c.requires, c.from.ensures) in
-    rw c.from.ensures at (slice_get_read sets _ c.from.result c.index.result.now refl within c.index.ensures)
+    rw c.from.ensures at (slice_get_read sets _ _ _ refl within c.index.ensures)
