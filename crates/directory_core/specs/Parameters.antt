@@ -12,12 +12,12 @@ use Rattle.coap_wire.specs.Message.{CoapOption}
 use Rattle.directory_core.specs.Requests.{split_query}
 
 -- The character is none of 0 to 31 and of 127 to 159.
-abbrev pub is_name_char : ℕ → Bool
-is_name_char c = nat_le 32 c && (nat_lt c 127 || nat_le 160 c)
+abbrev pub is_key_char : ℕ → Bool
+is_key_char c = nat_le 32 c && (nat_lt c 127 || nat_le 160 c)
 
 -- The bytes are UTF-8, and each character can be in the name of an endpoint or a sector.
-abbrev pub is_name_text : List ℕ → Bool
-is_name_text bytes = is_utf8 bytes && list_all is_name_char (chars bytes)
+abbrev pub is_key_text : List ℕ → Bool
+is_key_text bytes = is_utf8 bytes && list_all is_key_char (chars bytes)
 
 -- The key of an endpoint with this sector and name: a byte with the length of the sector, the sector, and the name.
 -- `None` if a name has more than 63 bytes or other characters, or if that of the endpoint is empty.
@@ -26,7 +26,7 @@ key_in sector name =
     if nat_lt 63 (length sector) then None
     else (if nat_lt 63 (length name) then None
     else (if length name == 0 then None
-    else (if is_name_text sector && is_name_text name then Some (length sector ∷ sector ++ name) else None)))
+    else (if is_key_text sector && is_key_text name then Some (length sector ∷ sector ++ name) else None)))
 
 -- RFC 3986 section 3.1: a character of a scheme.
 abbrev pub is_scheme_char : ℕ → Bool

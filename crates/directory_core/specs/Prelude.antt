@@ -13,7 +13,7 @@ pub use Rattle.directory_core.specs.Requests.{lifetime_in, segments, location_of
 pub use Rattle.directory_core.specs.Requests.{route_of}
 pub use Rattle.directory_core.specs.Parameters.{key_in, is_scheme, is_scheme_char, is_authority, is_authority_char}
 pub use Rattle.directory_core.specs.Parameters.{is_base, has_scheme, is_limited}
-pub use Rattle.directory_core.specs.Parameters.{is_plain_char, is_well_formed, is_name_char, is_name_text}
+pub use Rattle.directory_core.specs.Parameters.{is_plain_char, is_well_formed, is_key_char, is_key_text}
 pub use Rattle.directory_core.specs.Parameters.{parameter_names, own_names, is_allowed_name}
 pub use Rattle.directory_core.specs.Parameters.{has_allowed_name}
 pub use Rattle.directory_core.specs.Conditions.{means_link_format, names_link_format, has_link_format}

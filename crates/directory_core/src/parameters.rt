@@ -9,7 +9,7 @@ ghost use Rattle.directory_core.specs.Prelude.{key_in, is_scheme as is_scheme_te
 ghost use Rattle.directory_core.specs.Prelude.{is_authority_char, is_base as is_base_text};
 ghost use Rattle.directory_core.specs.Prelude.{has_scheme as has_scheme_text, is_limited, is_plain_char};
 ghost use Rattle.directory_core.specs.Prelude.{is_well_formed, has_allowed_name, is_allowed_name, coap_option};
-ghost use Rattle.directory_core.specs.Prelude.{parameter_names, own_names, is_name_char, is_name_text};
+ghost use Rattle.directory_core.specs.Prelude.{parameter_names, own_names, is_key_char, is_key_text};
 ghost use Rattle.directory_links.specs.Characters.{is_same_name as is_same};
 
 use crate::query::split_query;
@@ -30,29 +30,27 @@ pub(crate) fn is_utf8(text: &[u8]) -> bool
     str::from_utf8(text).is_ok()
 }
 
-/// Returns `true` unless the character is a control character: one of 0 to 31 or 127 to 159.
-fn is_of_name(c: char) -> bool
-    ensures { result ≡ is_name_char c }
+fn is_of_key(c: char) -> bool
+    ensures { result ≡ is_key_char c }
 {
-    let number = u32::from(c);
-    number >= 32 && (number < 127 || number >= 160)
+    !c.is_control()
 }
 
-fn all_of_name(text: &str) -> bool
-    ensures { result ≡ list_all is_name_char (chars text.now) }
+fn all_of_key(text: &str) -> bool
+    ensures { result ≡ list_all is_key_char (chars text.now) }
 {
-    text.chars().all(|c| is_of_name(c))
+    text.chars().all(|c| is_of_key(c))
 }
 
 /// Returns `true` if the text can be the name of an endpoint or a sector, apart from its length.
 #[tactic(auto, using(crate::proofs::TextLemmas::utf8))]
-fn is_name(text: &[u8]) -> bool
-    ensures { result ≡ is_name_text text.now }
+fn is_key_part(text: &[u8]) -> bool
+    ensures { result ≡ is_key_text text.now }
 {
     let Ok(name) = str::from_utf8(text) else {
         return false;
     };
-    all_of_name(name)
+    all_of_key(name)
 }
 
 /// Returns the key of an endpoint with this sector and name. Returns `None` if a name is too long or has bytes that no
@@ -63,7 +61,7 @@ pub(crate) fn endpoint_key(sector: &[u8], name: &[u8]) -> Option<EndpointKey>
     if sector.len() > MAX_NAME || name.len() > MAX_NAME || name.is_empty() {
         return None;
     }
-    if !is_name(sector) || !is_name(name) {
+    if !is_key_part(sector) || !is_key_part(name) {
         return None;
     }
     let mut key = EndpointKey::new();

@@ -36,7 +36,7 @@ const PROGRAM: Program = Program {
 };
 
 /// Entry points of a directory (RFC 9176 section 4.3), in the form of the option `--application` of `coap-server`.
-const ENTRIES: [&str; 3] = [
+const ENTRIES: &[&str] = &[
     "/rd;get,post,put,delete;rt=\"core.rd\";ct=40",
     "/rd-lookup/ep;get,post,put,delete;rt=\"core.rd-lookup-ep\";ct=40",
     "/rd-lookup/res;get,post,put,delete;rt=\"core.rd-lookup-res\";ct=40",
@@ -66,7 +66,7 @@ fn config_of(alloc: Global, plan: &DirectoryPlan, now: u64) -> Option<ServiceCon
         .starts(Starts::at(now))
         .build()
         .ok()?;
-    let applications = entries_in(alloc, &ENTRIES).ok()?;
+    let applications = entries_in(alloc, ENTRIES).ok()?;
     Some(ServiceConfig {
         config,
         applications: Some(applications),
@@ -78,43 +78,67 @@ fn config_of(alloc: Global, plan: &DirectoryPlan, now: u64) -> Option<ServiceCon
     })
 }
 
-/// Listens at the address of a plan, writes one line that says so to standard error, and serves the connections that
-/// clients open. Returns an exit status only after an error. The file of a record is created once the server listens,
-/// so that none is left if it cannot.
+/// Runs a plan: serves the connections that clients open. Returns an exit status only after an error.
 fn run<'a>(
     rt: &'a (impl Print + Eprint + Files + Net + time::Clock + AllocGlobal),
     plan: &'a DirectoryPlan,
 ) -> u8 {
     let mut clock = SystemClock::new(rt);
-    let (Some(config), Ok(directory)) = (
+    let (Some(config), Ok(mut directory)) = (
         config_of(rt.alloc(), plan, clock.now()),
         directory_of(rt, plan),
     ) else {
         return PROGRAM.print_fault(rt, "no memory", FAULT);
     };
+    listen(rt, plan, clock, config, &mut directory)
+}
+
+/// Listens at the address of a plan, and serves the connections that clients open. Returns an exit status only after an
+/// error. The file of a record is created once the server listens, so that none is left if it cannot.
+fn listen<'a, R: Print + Eprint + Files + Net + time::Clock + AllocGlobal>(
+    rt: &'a R,
+    plan: &'a DirectoryPlan,
+    clock: SystemClock<'a, R>,
+    config: ServiceConfig,
+    directory: &mut DirectoryApplication<RunClock<'a, R>>,
+) -> u8 {
     let address = SocketAddr::new(plan.address, plan.port);
     let connections = config.config.connections();
     let mut door = match SocketDoor::listen(rt, rt.alloc(), address, connections) {
         Ok(door) => door,
         Err(fault) => return print_listen_fault(rt, &PROGRAM, fault, address),
     };
+    serve_at(rt, plan, &mut door, clock, config, directory)
+}
+
+/// Creates the file of the record, writes the address of a listener to standard error, and serves its connections.
+/// Returns an exit status only after an error.
+fn serve_at<'a, R: Print + Eprint + Files + Net + time::Clock + AllocGlobal>(
+    rt: &'a R,
+    plan: &'a DirectoryPlan,
+    door: &mut SocketDoor<'a, R>,
+    clock: SystemClock<'a, R>,
+    config: ServiceConfig,
+    directory: &mut DirectoryApplication<RunClock<'a, R>>,
+) -> u8 {
     let record = match open_record(rt, &PROGRAM, plan.record.as_deref(), plan.record_limit) {
         Ok(record) => record,
         Err(status) => return status,
     };
     let _ = eprintln!(rt;
         "coap-directory: listening on {}",
-        door.address().unwrap_or(address)
+        door.address()
+            .unwrap_or(SocketAddr::new(plan.address, plan.port))
     );
     let server = ServerDescription {
         program: &PROGRAM,
         config: &config.config,
-        entries: &ENTRIES,
+        entries: ENTRIES,
     };
-    let Ok(monitor) = monitor_with(rt, server, plan.log, &mut door, record) else {
+    let Ok(monitor) = monitor_with(rt, server, plan.log, door, record) else {
         return PROGRAM.print_fault(rt, IoFault::Memory, FAULT);
     };
-    match serve(rt, &mut door, clock, config, directory, monitor) {
+    match serve(rt, door, clock, config, directory, monitor) {
         Ok(()) => unreachable!(),
         Err(fault) => PROGRAM.print_fault(rt, fault, FAULT),
     }
@@ -126,7 +150,7 @@ fn serve<'a, R: Net + time::Clock + AllocGlobal, O: Outlet + Drop>(
     door: &mut SocketDoor<'a, R>,
     clock: SystemClock<'a, R>,
     config: ServiceConfig,
-    directory: DirectoryApplication<RunClock<'a, R>>,
+    directory: &mut DirectoryApplication<RunClock<'a, R>>,
     mut monitor: ServerMonitor<'_, R, O>,
 ) -> Result<(), IoFault>
     ensures { IsErr result }
@@ -147,26 +171,18 @@ fn serve_with<'a, R: Net + time::Clock + AllocGlobal, M: Monitor<SocketWire>>(
     door: &mut SocketDoor<'a, R>,
     clock: SystemClock<'a, R>,
     config: ServiceConfig,
-    directory: DirectoryApplication<RunClock<'a, R>>,
+    directory: &mut DirectoryApplication<RunClock<'a, R>>,
     monitor: &mut M,
 ) -> Result<(), IoFault>
     ensures ends { IsErr result }
     // The monitor has passed on what it received, also in the last turn.
     ensures passed { M.has_passed monitor.new }
 {
-    let mut directory = directory;
     let mut clocks = Clocks {
         time: clock,
         uptime: config.idle.map(|_| RunClock::start(rt)),
     };
-    let served = serve_door_with(
-        rt.alloc(),
-        door,
-        &mut clocks,
-        config,
-        &mut directory,
-        monitor,
-    );
+    let served = serve_door_with(rt.alloc(), door, &mut clocks, config, directory, monitor);
     // After a failed allocation, the lines of the last turn still wait.
     monitor.turn_ended();
     served

@@ -53,6 +53,19 @@ pub(crate) fn run<'a>(
         Ok(door) => door,
         Err(fault) => return print_listen_fault(rt, &PROGRAM, fault, address),
     };
+    serve_at(rt, address, &mut door, clock, config, plan)
+}
+
+/// Creates the file of the record, writes the address of a listener to standard error, and serves its connections.
+/// Returns an exit status only after an error.
+fn serve_at<'a, R: Print + Eprint + Files + Net + time::Clock + AllocGlobal>(
+    rt: &'a R,
+    address: SocketAddr,
+    door: &mut SocketDoor<'a, R>,
+    clock: SystemClock<'a, R>,
+    config: Config,
+    plan: &'a ServerPlan,
+) -> u8 {
     let record = match open_record(rt, &PROGRAM, plan.record.as_deref(), plan.record_limit) {
         Ok(record) => record,
         Err(status) => return status,
@@ -61,7 +74,7 @@ pub(crate) fn run<'a>(
         "coap-server: listening on {}",
         door.address().unwrap_or(address)
     );
-    match serve(rt, &mut door, clock, config, plan, record) {
+    match serve(rt, door, clock, config, plan, record) {
         Ok(()) => unreachable!(),
         Err(fault) => PROGRAM.print_fault(rt, fault, FAULT),
     }

@@ -75,13 +75,20 @@ regrouped : (a program space version b c options entries d e name quoted more : 
     ++ (b ++ (c ++ (options ++ (entries ++ (d ++ (e ++ ((name ++ space) ++ (options ++ (quoted ++ (d ++ more))))))))))))
 regrouped a program space version b c options entries d e name quoted more = simp append_assoc
 
--- The texts of the header, as three calls append them.
-pub laid_out : (a program space version b c options entries n d name quoted : List ℕ)
-    → (([] ++ (a ++ (program ++ (space ++ (version ++ (b ++ [])))))) ++ (c ++ (options ++ (entries ++ (n ++ [])))))
-    ++ (d ++ (name ++ (space ++ (options ++ (quoted ++ (n ++ []))))))
-    ≡ a ++ program ++ space ++ version ++ b ++ (c ++ options) ++ entries ++ n ++ d ++ name
-    ++ space ++ options ++ quoted ++ n
-laid_out a program space version b c options entries n d name quoted = simp (append_assoc, append-nil)
+-- The texts of the header, as six calls append them.
+pub laid_out : (old a program space version b c options entries n d name quoted : List ℕ)
+    → (((((old ++ (a ++ (program ++ (space ++ (version ++ (b ++ [])))))) ++ (c ++ (options ++ []))) ++ entries)
+    ++ ((n ++ d) ++ (name ++ (space ++ (options ++ []))))) ++ quoted) ++ (n ++ [])
+    ≡ old ++ (a ++ program ++ space ++ version ++ b ++ (c ++ options) ++ entries ++ n ++ d ++ name
+    ++ space ++ options ++ quoted ++ n)
+laid_out old a program space version b c options entries n d name quoted = simp (append_assoc, append-nil)
+
+-- Ten words and numbers, as rows and as a text.
+pub rows_joined : (a b c d e f g h i j k l m n o p q r s t : List ℕ)
+    → (a ++ b) ++ ((c ++ d) ++ ((e ++ f) ++ ((g ++ h) ++ ((i ++ j) ++ ((k ++ l) ++ ((m ++ n) ++ ((o ++ p)
+    ++ ((q ++ r) ++ ((s ++ t) ++ [])))))))))
+    ≡ a ++ b ++ c ++ d ++ e ++ f ++ g ++ h ++ i ++ j ++ k ++ l ++ m ++ n ++ o ++ (p ++ q ++ r ++ s ++ t)
+rows_joined a b c d e f g h i j k l m n o p q r s t = simp (append_assoc, append-nil)
 
 pub header_says_nothing : (program version name : List ℕ) (c : ConfigValues) (entries : List (List ℕ))
     → is_text program ≡ true → is_text version ≡ true

@@ -1,9 +1,11 @@
 -- Defined by this project: the header of a record. It has three lines: the version and the format, the options that
 -- were in force, and a command line that replays the record.
 use Rattle.std.specs.Prelude.{ℕ, Bool, false, List, [], ◌∷◌, ◌++◌, ◌==◌, ◌&&◌, ◌||◌, not, if◌then◌else◌, codes, decimal}
+use Rattle.std.specs.Borrow.{Bor}
 use Rattle.std.specs.List.{flat_map, list_all}
 use Rattle.std.specs.Char.{is_ascii_alphanumeric}
 use Rattle.coap_model.specs.Configs.{ConfigValues, StartValues}
+use Rattle.coap_print.specs.Texts.{is_text}
 
 -- A byte that means itself in each command line: a letter, a digit, or one of `. _ / + -`.
 abbrev pub is_plain : ℕ → Bool
@@ -34,6 +36,14 @@ options_text c =
     ++ codes " --observers " ++ decimal c.limits.observers
     ++ codes " --connections " ++ decimal c.connections
     ++ codes " --starts " ++ starts_text c.starts
+
+-- The words before numbers, each followed by its number.
+abbrev pub numbers_text : List (Bor (List ℕ) × ℕ) → List ℕ
+numbers_text rows = flat_map (λ row. row.0.now ++ decimal row.1) rows
+
+-- True if all words before numbers are printable.
+abbrev pub words_are_text : List (Bor (List ℕ) × ℕ) → Bool
+words_are_text rows = list_all (λ row. is_text row.0.now) rows
 
 -- The line of the header that states the options.
 abbrev pub options_line : ConfigValues → List ℕ

@@ -1,11 +1,13 @@
 //! The header of a record: the version, the options that are in force, and a command line that replays the record.
 
-ghost use Rattle.std.specs.Prelude.{◌≡◌, ◌++◌, map, true, IfOk, OnOk, codes, decimal};
+ghost use Rattle.std.specs.Prelude.{◌≡◌, ◌++◌, map, true, IfOk, OnOk, decimal};
 ghost use Rattle.std.specs.List.{flat_map, list_all};
 ghost use Rattle.coap_command_line.specs.declared.arguments.tables.TheConstants.{VERSION};
+ghost use Rattle.coap_model.specs.Configs.{ConfigValues};
 ghost use Rattle.coap_print.specs.Texts.{is_text};
 ghost use Rattle.coap_record.specs.Prelude.{SaysNoEvent};
-ghost use Rattle.program_server_common.specs.RecordHeaders.{entry_text, header_text, options_text, starts_text};
+ghost use Rattle.program_server_common.specs.RecordHeaders.{entry_text, header_text, numbers_text, options_text};
+ghost use Rattle.program_server_common.specs.RecordHeaders.{words_are_text};
 ghost use Rattle.program_server_common.specs.RecordHeaders as spec;
 
 use coap_command_line::VERSION;
@@ -23,7 +25,6 @@ use std::alloc::{AllocError, Global};
 /// # Preconditions
 ///
 /// The name of the program and the entries are printable ASCII.
-#[tactic(auto, unfolding(crate::specs::RecordHeaders::header_text))]
 pub fn header(
     alloc: Global,
     program: &str,
@@ -38,12 +39,29 @@ pub fn header(
     ensures comments { IfOk result (λ text. SaysNoEvent text.items) }
 {
     let options = options(alloc, config)?;
-    let bare = entry_options(alloc, b"", entries)?;
-    let quoted = entry_options(alloc, b"'", entries)?;
-    let name = shown_name(name.as_bytes());
     let mut text = Vec::new(alloc);
+    append_header(&mut text, program, name, options.as_slice(), entries)?;
+    Ok(text)
+}
+
+/// Appends the header of the record with this name, with the options of the configuration.
+///
+/// # Errors
+///
+/// Returns `AllocError` if allocation fails.
+#[tactic(auto, unfolding(crate::specs::RecordHeaders::header_text))]
+fn append_header(
+    text: &mut Vec<u8>,
+    program: &str,
+    name: &str,
+    options: &[u8],
+    entries: &[&str],
+) -> Result<(), AllocError>
+    ensures { (c : ConfigValues) → options.now ≡ options_text c → OnOk result (text.new.items
+        ≡ text.old.items ++ header_text program.now VERSION.now name.now c (map (λ e. e.now) entries.now)) }
+{
     append(
-        &mut text,
+        text,
         &[
             b"# Record of ",
             program.as_bytes(),
@@ -52,37 +70,34 @@ pub fn header(
             b", format 1\n",
         ],
     )?;
+    append(text, &[b"# options: ", options])?;
+    append_entries(text, b"", entries)?;
     append(
-        &mut text,
-        &[b"# options: ", options.as_slice(), bare.as_slice(), b"\n"],
-    )?;
-    append(
-        &mut text,
+        text,
         &[
-            b"# replay: coap-server --script ",
-            name,
+            b"\n# replay: coap-server --script ",
+            shown_name(name.as_bytes()),
             b" ",
-            options.as_slice(),
-            quoted.as_slice(),
-            b"\n",
+            options,
         ],
     )?;
-    Ok(text)
+    append_entries(text, b"'", entries)?;
+    append(text, &[b"\n"])
 }
 
-/// Returns the options for the entries that an application answers, each entry between two copies of `quote`.
+/// Appends the options for the entries that an application answers, each entry between two copies of `quote`.
 ///
 /// # Errors
 ///
 /// Returns `AllocError` if allocation fails.
-fn entry_options(alloc: Global, quote: &[u8], entries: &[&str]) -> Result<Vec<u8>, AllocError>
-    ensures { IfOk result (λ text. text.items ≡ flat_map (λ entry. entry_text quote.now entry.now) entries.now) }
+fn append_entries(text: &mut Vec<u8>, quote: &[u8], entries: &[&str]) -> Result<(), AllocError>
+    ensures { OnOk result (text.new.items
+        ≡ text.old.items ++ flat_map (λ entry. entry_text quote.now entry.now) entries.now) }
 {
-    let mut text = Vec::new(alloc);
     for entry in entries {
-        append_entry(&mut text, quote, entry)?;
+        append_entry(text, quote, entry)?;
     }
-    Ok(text)
+    Ok(())
 }
 
 /// Appends the option for an entry.
@@ -101,39 +116,54 @@ fn append_entry(text: &mut Vec<u8>, quote: &[u8], entry: &str) -> Result<(), All
 /// # Errors
 ///
 /// Returns `AllocError` if allocation fails.
-#[tactic(auto, unfolding(crate::specs::RecordHeaders::options_text))]
 fn options(alloc: Global, config: &Config) -> Result<Vec<u8>, AllocError>
     ensures text { IfOk result (λ text. text.items ≡ options_text config.now) }
     ensures printable { IfOk result (λ text. is_text text.items ≡ true) }
 {
-    let limits = config.limits();
     let mut text = Vec::new(alloc);
-    append_number(&mut text, b"-d ", config.dynamic_max() as u64)?;
-    append_number(&mut text, b" --max-message ", limits.max_message() as u64)?;
-    append_number(&mut text, b" --max-sent ", limits.max_sent() as u64)?;
-    append_number(&mut text, b" --queue ", limits.queue() as u64)?;
-    append_number(&mut text, b" --pending ", limits.pending() as u64)?;
-    append_number(&mut text, b" --observers ", limits.observers() as u64)?;
-    append_number(&mut text, b" --connections ", config.connections() as u64)?;
-    append_starts(&mut text, config)?;
+    append_numbers(&mut text, &numbers(config))?;
     Ok(text)
 }
 
-/// Appends the option for the values at which the counts of a server begin.
+/// Returns the options on which a replay depends, in the order of the usage line: the words before each number, and the
+/// number. The last three are the values at which the counts of a server begin.
+#[tactic(auto, unfolding(crate::specs::RecordHeaders::options_text))]
+fn numbers(config: &Config) -> [(&'static str, u64); 10]
+    ensures text { numbers_text result ≡ options_text config.now }
+    ensures printable { words_are_text result ≡ true }
+{
+    let limits = config.limits();
+    let starts = config.starts();
+    [
+        ("-d ", config.dynamic_max() as u64),
+        (" --max-message ", limits.max_message() as u64),
+        (" --max-sent ", limits.max_sent() as u64),
+        (" --queue ", limits.queue() as u64),
+        (" --pending ", limits.pending() as u64),
+        (" --observers ", limits.observers() as u64),
+        (" --connections ", config.connections() as u64),
+        (" --starts ", starts.moment),
+        (",", starts.versions),
+        (",", starts.ids),
+    ]
+}
+
+/// Appends the words and the number of each row.
 ///
 /// # Errors
 ///
 /// Returns `AllocError` if allocation fails.
-fn append_starts(text: &mut Vec<u8>, config: &Config) -> Result<(), AllocError>
-    ensures text { OnOk result (text.new.items
-        ≡ text.old.items ++ codes " --starts " ++ starts_text config.now.starts) }
-    ensures printable { is_text text.old.items ≡ true →
-        OnOk result (is_text text.new.items ≡ true) }
+fn append_numbers(text: &mut Vec<u8>, mut rows: &[(&str, u64)]) -> Result<(), AllocError>
+    requires words { words_are_text rows.now ≡ true }
+    requires front { is_text text.old.items ≡ true }
+    ensures text { OnOk result (text.new.items ≡ text.old.items ++ numbers_text rows.entry.now) }
+    ensures printable { OnOk result (is_text text.new.items ≡ true) }
 {
-    let starts = config.starts();
-    append_number(text, b" --starts ", starts.moment)?;
-    append_number(text, b",", starts.versions)?;
-    append_number(text, b",", starts.ids)
+    while let [row, rest @ ..] = rows {
+        append_number(text, row.0.as_bytes(), row.1)?;
+        rows = rest;
+    }
+    Ok(())
 }
 
 /// Appends words and a number in decimal digits.

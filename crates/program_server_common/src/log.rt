@@ -287,12 +287,7 @@ impl<'a, R: time::Clock> ServerLog<'a, R> {
         if followed.stop.is_none() && has_failed {
             self.warn(id, " failed");
         }
-        let mut line = front(id);
-        line.text(" ended: ");
-        line.escaped(reason_of(&followed, has_failed).as_bytes());
-        line.text("; ");
-        append_counts(&mut line, &followed.incoming, &followed.outgoing);
-        Some(line)
+        Some(end_line(id, &followed, has_failed))
     }
 
     /// Writes a warning if a number of failed system calls has grown.
@@ -326,6 +321,16 @@ impl<'a, R: time::Clock> ServerLog<'a, R> {
         self.report(before.other, now.other, "connections not accepted");
         self.report(before.waits, now.waits, "failed waits");
     }
+}
+
+/// Returns the last line of a connection.
+fn end_line(id: ConnId, followed: &Followed, has_failed: bool) -> Line {
+    let mut line = front(id);
+    line.text(" ended: ");
+    line.escaped(reason_of(followed, has_failed).as_bytes());
+    line.text("; ");
+    append_counts(&mut line, &followed.incoming, &followed.outgoing);
+    line
 }
 
 /// Returns the reason for the end of a connection, in words. If there is no reason of the protocol, its wire has

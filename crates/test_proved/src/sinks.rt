@@ -4,10 +4,8 @@ use coap_wire::{Builder, Code, Sink, SliceSink, TokenRef};
 use std::process::Abort;
 use std::test::Fail;
 
-/// Bytes that `fill` writes: one byte, a CSM with a Max-Message-Size of 65,536, and two bytes.
-const FILLED: [u8; 9] = [0xaa, 0x40, 0xe1, 0x23, 0x01, 0x00, 0x00, 0xbb, 0xcc];
-
-/// Pushes a byte, writes a message and appends two bytes, and asserts that each write reduces the room.
+/// Pushes a byte, writes a CSM with a Max-Message-Size of 65,536 and appends two bytes: aa 40e123010000 bbcc. Asserts
+/// that each write reduces the room.
 fn fill<S: Sink>(rt: &impl Abort, sink: &mut S) -> Result<(), Fail> {
     let mut message = Builder::with_token_ref(Code::CSM, TokenRef::empty());
     message.option(2, &[1, 0, 0])?;
@@ -28,10 +26,9 @@ fn writes_into_a_slice(rt: HostRuntime) -> Result<(), Fail> {
     let mut sink = SliceSink::new(&mut bytes);
     fill(&rt, &mut sink)?;
     assert!(&rt; sink.room() == 1);
-    assert!(&rt; sink.written() == FILLED.as_slice());
+    assert!(&rt; sink.written() == b"\xaa\x40\xe1\x23\x01\x00\x00\xbb\xcc".as_slice());
     // The slice keeps what was written, and the byte after it is unchanged.
-    assert!(&rt; bytes.get(..9) == Some(FILLED.as_slice()));
-    assert!(&rt; bytes.last() == Some(&0x99));
+    assert!(&rt; bytes.as_slice() == b"\xaa\x40\xe1\x23\x01\x00\x00\xbb\xcc\x99".as_slice());
     Ok(())
 }
 
@@ -41,7 +38,7 @@ fn writes_after_content(rt: HostRuntime) -> Result<(), Fail> {
     bytes.push(0x99)?;
     fill(&rt, &mut bytes)?;
     assert!(&rt; bytes.room() == 0);
-    assert!(&rt; bytes.first() == Some(&0x99));
-    assert!(&rt; bytes.get(1..) == Some(FILLED.as_slice()));
+    let wanted = b"\x99\xaa\x40\xe1\x23\x01\x00\x00\xbb\xcc";
+    assert!(&rt; bytes.as_slice() == wanted.as_slice());
     Ok(())
 }

@@ -1,19 +1,40 @@
 //! Entries of an application, in one word with commas between them. Each is a path, hex digits of the codes of its
 //! methods, and hex digits of the attributes of its link: `/rd:0204:6f6273,/lamp:03:`.
 
-use crate::row_words::read_hex;
+use crate::row_words::{read_hex, split_first};
 use arrayvec::ArrayVec;
 use coap_path::{ApplicationFault, Applications, PathKey};
 use coap_wire::Code;
 use std::alloc::{AllocError, Global};
 
+/// Maximum number of entries in a word. An application has fewer.
+const MOST: usize = 64;
+
 /// Returns the key of a path such as `/rd/new`, or that of the root if there is no such key.
 fn path_of(text: &str) -> PathKey {
     let mut segments: ArrayVec<&[u8], 17> = ArrayVec::new();
-    for segment in text.strip_prefix("/").unwrap_or(text).split('/') {
+    let mut rest = Some(text.strip_prefix("/").unwrap_or(text));
+    for _ in 0..17 {
+        let Some(text) = rest else {
+            break;
+        };
+        let (segment, later) = split_first(text, '/');
         let _ = segments.try_push(segment.as_bytes());
+        rest = later;
     }
     PathKey::from_segments(segments.as_slice()).unwrap_or(PathKey::root())
+}
+
+/// Returns the methods with the codes of these bytes, followed by empty codes. Bytes after the 31st are dropped.
+fn methods_of(bytes: &[u8]) -> [Code; 31] {
+    let mut methods = [Code::EMPTY; 31];
+    let mut codes = bytes.iter();
+    for method in &mut methods {
+        if let Some(code) = codes.next() {
+            *method = Code::new(*code);
+        }
+    }
+    methods
 }
 
 /// Adds an entry to an application.
@@ -25,13 +46,14 @@ fn add(
     let (path, entry) = entry.split_once(':').unwrap_or((entry, ""));
     let (digits, attributes) = entry.split_once(':').unwrap_or((entry, ""));
     read_hex(digits, bytes);
-    let mut methods = [Code::EMPTY; 31];
-    for (method, code) in methods.iter_mut().zip(bytes.iter()) {
-        *method = Code::new(*code);
-    }
-    let methods = &methods[..bytes.len().min(31)];
+    let count = bytes.len();
+    let methods = methods_of(bytes);
     read_hex(attributes, bytes);
-    applications.add(&path_of(path), methods, bytes)
+    applications.add(
+        &path_of(path),
+        methods.get(..count).unwrap_or(&methods),
+        bytes,
+    )
 }
 
 /// Adds each entry of a word to an application.
@@ -40,8 +62,14 @@ fn add_all(
     entries: &str,
     bytes: &mut Vec<u8>,
 ) -> Result<(), ApplicationFault> {
-    for entry in entries.split(',') {
+    let mut rest = Some(entries);
+    for _ in 0..MOST {
+        let Some(text) = rest else {
+            break;
+        };
+        let (entry, later) = split_first(text, ',');
         add(applications, entry, bytes)?;
+        rest = later;
     }
     Ok(())
 }

@@ -20,7 +20,7 @@ use std::alloc::{AllocError, Global};
 /// Writes a word, and the code, the token and the payload of a message.
 fn tell_message(word: &str, message: &MessageRef, results: &mut RowLine) {
     results.word(word);
-    results.number(u64::from(message.code().byte()));
+    results.number(message.code().byte() as u64);
     results.hex(message.token().bytes());
     results.hex(message.payload());
 }
@@ -34,7 +34,7 @@ pub(crate) fn tell_event(event: &Event, results: &mut RowLine) {
         Event::Rejected { token, number } => {
             results.word("rejected");
             results.hex(token.bytes());
-            results.number(u64::from(*number));
+            results.number(*number as u64);
         }
         Event::Pong { token, custody } => {
             results.word("pong");
@@ -44,7 +44,7 @@ pub(crate) fn tell_event(event: &Event, results: &mut RowLine) {
         Event::Stranger => results.word("stranger"),
         Event::Stopped(reason) => {
             results.word("stopped");
-            results.number(u64::from(reason.number()));
+            results.number(reason.number() as u64);
         }
     }
 }
@@ -176,9 +176,8 @@ impl Layer for Client {
         let kept = event.strip_prefix("keep ");
         act(alloc, self, kept.unwrap_or(event), bytes, results);
         results.debug(&self.phase());
-        results.number(self.outstanding() as u64);
         let count = self.waiting();
-        results.number(count as u64);
+        results.sizes(&[self.outstanding(), count]);
         results.hex(self.front());
         if kept.is_none() {
             self.written(count);

@@ -16,18 +16,23 @@ use std::alloc::Global;
 /// Maximum number of arguments.
 const MOST: usize = 32;
 
-/// Splits a text at white space. Words after the first `MOST` are dropped.
+/// Splits a text at its first `MOST` spaces. Empty words, and the text after these spaces, are dropped.
 pub(crate) fn words_of(text: &str) -> ArrayVec<&str, MOST> {
     let mut words = ArrayVec::new();
-    for word in text.split_whitespace() {
-        let _ = words.try_push(word);
+    let mut rest = text;
+    for _ in 0..MOST {
+        let (word, later) = cut(rest);
+        if !word.is_empty() {
+            let _ = words.try_push(word);
+        }
+        rest = later;
     }
     words
 }
 
 /// Writes an error: the kind if `clap` rejects the arguments, otherwise the text.
 pub(crate) fn tell_fault(fault: &WordsFault, results: &mut RowLine) {
-    results.number(u64::from(fault.number()));
+    results.number(fault.number() as u64);
     match fault {
         WordsFault::Usage(error) => {
             results.debug(&error.kind());
@@ -45,7 +50,7 @@ fn tell_entry(entry: &ApplicationEntry, results: &mut RowLine) {
     }
     results.word("methods");
     for method in entry.methods() {
-        results.number(u64::from(method.byte()));
+        results.number(method.byte() as u64);
     }
     results.hex(entry.attributes());
 }
@@ -54,7 +59,7 @@ fn tell_entry(entry: &ApplicationEntry, results: &mut RowLine) {
 fn tell_applications(plan: &ServerPlan, results: &mut RowLine) {
     if let Some(applications) = &plan.applications {
         results.word("application");
-        results.number(u64::from(applications.deadline()));
+        results.number(applications.deadline() as u64);
         for entry in applications.entries() {
             tell_entry(entry, results);
         }
@@ -67,7 +72,7 @@ fn tell_server(plan: &ServerPlan, results: &mut RowLine) {
         Mode::Listen(address, port) => {
             results.word("listen");
             results.text(address);
-            results.number(u64::from(*port));
+            results.number(*port as u64);
         }
         Mode::Stdio => results.word("stdio"),
         Mode::Script(name) => {
@@ -76,14 +81,15 @@ fn tell_server(plan: &ServerPlan, results: &mut RowLine) {
         }
     }
     tell_limits(&plan.limits, results);
-    results.number(plan.connections as u64);
-    results.number(plan.dynamic_max as u64);
-    results.number(plan.turns);
+    results.sizes(&[plan.connections, plan.dynamic_max, plan.turns as usize]);
     results.debug(&plan.log);
-    results.number(u64::from(plan.idle));
-    results.number(plan.starts.moment);
-    results.number(plan.starts.versions);
-    results.number(plan.starts.ids);
+    let starts = &plan.starts;
+    results.sizes(&[
+        plan.idle as usize,
+        starts.moment as usize,
+        starts.versions as usize,
+        starts.ids as usize,
+    ]);
     results.debug(&plan.record);
     results.number(plan.record_limit);
     tell_applications(plan, results);
@@ -94,14 +100,14 @@ fn tell_client(plan: &ClientPlan, results: &mut RowLine) {
     results.debug(&plan.method);
     tell_target(&plan.target, results);
     results.debug(&plan.observe);
-    results.number(u64::from(plan.wait));
+    results.number(plan.wait as u64);
     results.debug(&plan.plain);
     results.debug(&plan.newline);
     results.debug(&plan.content_format);
     results.debug(&plan.accept);
     match &plan.option {
         Some((number, value)) => {
-            results.number(u64::from(*number));
+            results.number(*number as u64);
             results.hex(value);
         }
         None => results.word("None"),
@@ -112,13 +118,34 @@ fn tell_client(plan: &ClientPlan, results: &mut RowLine) {
     results.debug(&plan.log);
 }
 
-/// Writes the text of the error, in which byte 7 means a line feed, or `none` if the arguments are valid.
-fn tell_text<P: Drop>(read: Result<P, WordsFault>, results: &mut RowLine) {
-    match read {
-        Ok(_) => results.word("none"),
-        Err(fault) => results.text(&fault),
+/// Writes an error as `tell_fault`, or its text alone, in which byte 7 means a line feed.
+fn tell_fault_or_text(fault: &WordsFault, is_text: bool, results: &mut RowLine) {
+    if is_text {
+        results.text(fault);
+        put_for(results.writer(), b'\n', 7);
+    } else {
+        tell_fault(fault, results);
     }
-    put_for(results.writer(), b'\n', 7);
+}
+
+/// Parses arguments of `coap-server`, and writes the plan or the error. If `is_text`, writes the text of the error, or
+/// `none`.
+fn read_server(alloc: Global, words: &[&str], is_text: bool, results: &mut RowLine) {
+    match &server_words(alloc, words) {
+        Ok(_) if is_text => results.word("none"),
+        Ok(plan) => tell_server(plan, results),
+        Err(fault) => tell_fault_or_text(fault, is_text, results),
+    }
+}
+
+/// Parses arguments of `coap-client`, and writes the plan or the error. If `is_text`, writes the text of the error, or
+/// `none`.
+fn read_client(alloc: Global, words: &[&str], is_text: bool, results: &mut RowLine) {
+    match &client_words(alloc, words) {
+        Ok(_) if is_text => results.word("none"),
+        Ok(plan) => tell_client(plan, results),
+        Err(fault) => tell_fault_or_text(fault, is_text, results),
+    }
 }
 
 /// Parses the arguments of a command line, and writes the plan or the error.
@@ -126,15 +153,9 @@ pub(crate) fn play(alloc: Global, event: &str, results: &mut RowLine) {
     let (word, rest) = cut(event);
     let words = words_of(rest);
     match word {
-        "server" => match server_words(alloc, words.as_slice()) {
-            Ok(plan) => tell_server(&plan, results),
-            Err(fault) => tell_fault(&fault, results),
-        },
-        "client" => match client_words(alloc, words.as_slice()) {
-            Ok(plan) => tell_client(&plan, results),
-            Err(fault) => tell_fault(&fault, results),
-        },
-        "server-text" => tell_text(server_words(alloc, words.as_slice()), results),
-        _ => tell_text(client_words(alloc, words.as_slice()), results),
+        "server" => read_server(alloc, words.as_slice(), false, results),
+        "client" => read_client(alloc, words.as_slice(), false, results),
+        "server-text" => read_server(alloc, words.as_slice(), true, results),
+        _ => read_client(alloc, words.as_slice(), true, results),
     }
 }

@@ -64,9 +64,7 @@ pub(crate) fn configured(text: &str) -> Option<Config> {
 /// Writes each value of a configuration as its accessor returns it.
 fn tell_config(config: &Config, results: &mut RowLine) {
     tell_limits(&config.limits(), results);
-    results.number(config.connections() as u64);
-    results.number(config.dynamic_max() as u64);
-    results.number(config.rep_max() as u64);
+    results.sizes(&[config.connections(), config.dynamic_max(), config.rep_max()]);
     results.number(config.turns());
     results.debug(&config.starts());
 }

@@ -92,8 +92,8 @@ impl Layer for Framer {
         Some(Framer::new(alloc, max))
     }
 
-    /// Executes an event, and writes its result, the maximum frame size, and the numbers of bytes copied, kept and
-    /// spent.
+    /// Executes an event, and writes its result, the maximum frame size, and the numbers of bytes kept, spent and
+    /// copied.
     fn play(&mut self, _alloc: Global, event: &str, bytes: &mut Vec<u8>, results: &mut RowLine) {
         let (word, rest) = cut(event);
         read_hex(rest, bytes);
@@ -113,12 +113,11 @@ impl Layer for Framer {
             _ => results.word("strange"),
         }
         results.word("max");
-        results.number(self.max() as u64);
-        results.word("kept");
-        results.number(self.kept() as u64);
-        results.word("spent");
-        results.number(self.spent() as u64);
-        results.word("copied");
-        results.number(self.copied());
+        results.sizes(&[
+            self.max(),
+            self.kept(),
+            self.spent(),
+            self.copied() as usize,
+        ]);
     }
 }

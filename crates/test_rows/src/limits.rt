@@ -54,12 +54,14 @@ pub(crate) fn limits_of(text: &str) -> Result<Limits, LimitFault> {
 
 /// Writes each limit as its accessor returns it.
 pub(crate) fn tell_limits(limits: &Limits, results: &mut RowLine) {
-    results.number(limits.max_message() as u64);
-    results.number(limits.max_sent() as u64);
-    results.number(limits.queue() as u64);
-    results.number(limits.pending() as u64);
-    results.number(limits.observers() as u64);
-    results.number(limits.outstanding() as u64);
+    results.sizes(&[
+        limits.max_message(),
+        limits.max_sent(),
+        limits.queue(),
+        limits.pending(),
+        limits.observers(),
+        limits.outstanding(),
+    ]);
 }
 
 /// Executes an event, and writes its result.
@@ -73,7 +75,7 @@ pub(crate) fn play(event: &str, results: &mut RowLine) {
         "faults reasons" => {
             for reason in REASONS {
                 results.debug(reason);
-                results.number(u64::from(reason.number()));
+                results.number(reason.number() as u64);
             }
         }
         _ => match limits_of(event) {

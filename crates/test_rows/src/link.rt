@@ -10,7 +10,7 @@ use crate::limits::limits_of;
 use crate::row_line::RowLine;
 use crate::row_words::{cut, number, read_hex};
 use coap_conn::{Link, Phase, Reject, Role, first_part};
-use coap_wire::{BuildFault, Builder, MessageRef, Token, parse};
+use coap_wire::{Builder, MessageRef, Token, parse};
 use std::alloc::{AllocError, Global};
 
 /// Passes a message to the link, and writes the verdict.
@@ -24,14 +24,14 @@ fn hear(link: &mut Link, bytes: &[u8], results: &mut RowLine) {
     }
 }
 
-/// Returns a builder for a copy of a message.
-fn built<'a>(message: &MessageRef<'a>) -> Result<Builder<'a>, BuildFault> {
-    let mut built = Builder::with_token_ref(message.code(), message.token().copy());
+/// Adds the options and the payload of a message to a copy of it. Returns `true` if all were accepted.
+fn fill<'a>(copy: &mut Builder<'a>, message: &MessageRef<'a>) -> bool {
     for option in message.options() {
-        built.option(option.number, option.value)?;
+        if copy.option(option.number, option.value).is_err() {
+            return false;
+        }
     }
-    built.payload(message.payload())?;
-    Ok(built)
+    copy.payload(message.payload()).is_ok()
 }
 
 /// Sends a message as a response, as a request, or as a cancellation under its token, and writes the result.
@@ -39,9 +39,10 @@ fn send(link: &mut Link, word: &str, bytes: &[u8], how: &str, results: &mut RowL
     let Ok(message) = parse(bytes) else {
         return results.word("strange");
     };
-    let Ok(built) = built(&message) else {
+    let mut built = Builder::with_token_ref(message.code(), message.token().copy());
+    if !fill(&mut built, &message) {
         return results.word("strange");
-    };
+    }
     match (word, link.phase()) {
         ("request", _) => results.debug(&link.request(&built, how == "observe")),
         ("cancel", _) => results.debug(&link.cancel(&message.token().to_token(), &built)),
@@ -138,18 +139,14 @@ impl Layer for Link {
             }
             "announce" => announce(self, moment, results),
             "write" => written(self, moment, results),
-            "count" => {
-                results.number(self.pending() as u64);
-                results.number(self.outstanding() as u64);
-            }
-            "token" => results.number(u64::from(self.peer_token())),
+            "count" => results.sizes(&[self.pending(), self.outstanding()]),
+            "token" => results.number(self.peer_token() as u64),
             "part" => results.hex(first_part(self.parts())),
             "look" => results.word("-"),
             _ => results.word("refused"),
         }
         results.debug(&self.phase());
-        results.number(self.peer_max() as u64);
-        results.number(self.free() as u64);
+        results.sizes(&[self.peer_max() as usize, self.free()]);
         results.debug(&self.ready());
         results.debug(&self.finished());
         results.number(self.waiting() as u64);

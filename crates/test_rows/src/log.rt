@@ -9,7 +9,8 @@ pub(crate) type Page = RefCell<RowLine>;
 
 /// Records a call by its word, a number, the bytes of a write, and the result.
 pub(crate) fn note<T: Debug>(page: &Page, call: &str, number: u64, bytes: &[u8], answer: &T) {
-    if let Ok(mut results) = page.try_borrow_mut() {
+    if let Ok(mut page) = page.try_borrow_mut() {
+        let results: &mut RowLine = &mut page;
         results.word(call);
         results.number(number);
         results.hex(bytes);

@@ -136,23 +136,35 @@ fn play_all<R: Print + AllocGlobal>(
     }
 }
 
-/// Reads the rows and executes them, or returns `None` if input cannot be read or allocation fails. The result line has
+/// Executes rows. Returns `false` if they are no text, or if allocation fails before the first row. The result line has
 /// its capacity from the start, so that a later allocation failure is that of a row.
-fn read_and_play(rt: &(impl Input + Print + AllocGlobal)) -> Option<()> {
-    let mut text = Vec::with_capacity(rt.alloc(), ROWS_ROOM).ok()?;
-    rt.reader().read_to_end(&mut text).ok()?;
-    let mut bytes = Vec::with_capacity(rt.alloc(), ROOM).ok()?;
-    let mut results = RowLine::new(rt.alloc(), LINE_ROOM).ok()?;
-    let rows = str::from_utf8(&text).ok()?;
+fn play_text<R: Print + AllocGlobal>(rt: &R, rows: &[u8]) -> bool {
+    let Ok(mut bytes) = Vec::with_capacity(rt.alloc(), ROOM) else {
+        return false;
+    };
+    let Ok(mut results) = RowLine::new(rt.alloc(), LINE_ROOM) else {
+        return false;
+    };
+    let Ok(rows) = str::from_utf8(rows) else {
+        return false;
+    };
     if !rows.is_empty() {
         play_all(rt, rows, &mut bytes, &mut results);
     }
-    Some(())
+    true
+}
+
+/// Reads the rows and executes them. Returns `false` if they cannot be read, or as `play_text`.
+fn read_and_play<R: Input + Print + AllocGlobal>(rt: &R) -> bool {
+    let Ok(mut text) = Vec::with_capacity(rt.alloc(), ROWS_ROOM) else {
+        return false;
+    };
+    rt.reader().read_to_end(&mut text).is_ok() && play_text(rt, &text)
 }
 
 fn main(rt: HostRuntime) -> ExitCode {
-    match read_and_play(&rt) {
-        Some(()) => ExitCode::SUCCESS,
-        None => ExitCode::from(FAULT),
+    if read_and_play(&rt) {
+        return ExitCode::SUCCESS;
     }
+    ExitCode::from(FAULT)
 }

@@ -32,9 +32,7 @@ impl Layer for OutQueue {
             ("look", _) => {}
             _ => results.word("refused"),
         }
-        results.number(self.free() as u64);
-        results.number(self.room() as u64);
-        results.number(self.waiting() as u64);
+        results.sizes(&[self.free(), self.room(), self.waiting()]);
         results.hex(self.front());
     }
 }

@@ -11,11 +11,12 @@ pub(crate) struct RowLine {
     bytes: Vec<u8>,
 }
 
-/// Returns the hex digit of the lower four bits of a byte.
-fn digit_of(byte: u8) -> u8 {
-    match byte & 15 {
-        0..=9 => b'0' + (byte & 15),
-        low => b'W'.wrapping_add(low),
+/// Returns the hex digit of a number below 16.
+fn digit_of(number: u8) -> u8 {
+    if number < 10 {
+        b'0'.wrapping_add(number)
+    } else {
+        b'W'.wrapping_add(number)
     }
 }
 
@@ -41,6 +42,13 @@ impl RowLine {
         self.word(Buffer::new().format(number));
     }
 
+    /// Appends numbers, with a space after each.
+    pub(crate) fn sizes(&mut self, sizes: &[usize]) {
+        for size in sizes {
+            self.number(*size as u64);
+        }
+    }
+
     /// Appends bytes as hex digits, or `-` if there are none, and a space.
     pub(crate) fn hex(&mut self, bytes: &[u8]) {
         if bytes.is_empty() {
@@ -48,7 +56,7 @@ impl RowLine {
         }
         for byte in bytes {
             let _ = self.bytes.push(digit_of(*byte >> 4));
-            let _ = self.bytes.push(digit_of(*byte));
+            let _ = self.bytes.push(digit_of(*byte & 15));
         }
         let _ = self.bytes.push(b' ');
     }
@@ -65,17 +73,14 @@ impl RowLine {
 
     /// Appends the name of an error, its number and its text: `TooLarge 2 (frame too large)`.
     pub(crate) fn fault<F: Debug + Display>(&mut self, fault: &F, number: u8) {
-        let _ = write!(self, "{fault:?} {number} ({fault}) ");
+        self.debug(fault);
+        self.number(number as u64);
+        let _ = write!(self, "({fault}) ");
     }
 
-    /// Returns the buffer of the line. A caller that writes a line with its own line feed calls `end_line` afterwards.
+    /// Returns the buffer of the line. A caller that writes a line feed of its own removes it afterwards.
     pub(crate) fn writer(&mut self) -> &mut Vec<u8> {
         &mut self.bytes
-    }
-
-    /// Removes the last byte, which is the line feed that a caller of `writer` wrote.
-    pub(crate) fn end_line(&mut self) {
-        let _ = self.bytes.pop();
     }
 
     /// Prints the line with a line feed, and clears it.

@@ -5,6 +5,14 @@ pub(crate) fn cut<'a>(text: &'a str) -> (&'a str, &'a str) {
     text.split_once(' ').unwrap_or((text, ""))
 }
 
+/// Splits a text at its first separator. The second part is `None` if there is no separator.
+pub(crate) fn split_first<'a>(text: &'a str, separator: char) -> (&'a str, Option<&'a str>) {
+    match text.split_once(separator) {
+        Some((first, rest)) => (first, Some(rest)),
+        None => (text, None),
+    }
+}
+
 /// Returns the number that a text represents in decimal, or 0 if it represents none.
 pub(crate) fn number(text: &str) -> usize {
     text.parse::<usize>().unwrap_or(0)
@@ -14,28 +22,37 @@ pub(crate) fn number(text: &str) -> usize {
 /// numbers after the last are 0.
 pub(crate) fn numbers(text: &str) -> [usize; 13] {
     let mut numbers = [0; 13];
-    for (place, word) in numbers.iter_mut().zip(text.split(' ')) {
+    let mut rest = text;
+    for place in &mut numbers {
+        let (word, later) = cut(rest);
         *place = number(word);
+        rest = later;
     }
     numbers
 }
 
-/// Returns the value of a hex digit, or 0 for any other byte.
+/// Returns the value of a hex digit.
 fn nibble(digit: u8) -> u8 {
-    match digit {
-        b'0'..=b'9' => digit - b'0',
-        b'a'..=b'f' => digit - b'a' + 10,
-        _ => 0,
+    if digit < b'a' {
+        digit.wrapping_sub(b'0')
+    } else {
+        digit.wrapping_sub(b'W')
     }
 }
 
 /// Replaces `bytes` with the bytes that the hex digits encode. Bytes above the capacity of `bytes` are dropped.
 pub(crate) fn read_hex(word: &str, bytes: &mut Vec<u8>) {
     bytes.clear();
-    for digits in word.as_bytes().chunks_exact(2) {
-        if let [high, low] = digits {
-            let _ = bytes.push(nibble(*high).wrapping_mul(16).wrapping_add(nibble(*low)));
-        }
+    let mut first = None;
+    for digit in word.as_bytes() {
+        let low = nibble(*digit);
+        first = match first {
+            None => Some(low),
+            Some(high) => {
+                let _ = bytes.push(low.wrapping_add(high << 4));
+                None
+            }
+        };
     }
 }
 

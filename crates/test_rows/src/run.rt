@@ -31,7 +31,7 @@ fn run(
     let mut out = ScriptedOutlet::new(kind == "full");
     let mut err = ScriptedOutlet::new(kind == "mute");
     match run_client(alloc, &mut wire, &mut clock, &mut out, &mut err, plan) {
-        Ok(status) => results.number(u64::from(status)),
+        Ok(status) => results.number(status as u64),
         Err(fault) => results.fault(&fault, fault as u8),
     }
     results.hex(&out.bytes);

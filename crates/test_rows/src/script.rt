@@ -66,7 +66,7 @@ fn tell_event(event: &Event, results: &mut RowLine) {
 
 /// Writes the number and the text of an error.
 fn tell_fault(fault: ScriptFault, results: &mut RowLine) {
-    results.number(u64::from(fault.number()));
+    results.number(fault.number() as u64);
     results.text(&fault);
 }
 

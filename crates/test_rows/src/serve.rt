@@ -41,7 +41,9 @@ fn replay(
             let outcome = server.replay(&events, &mut WriteOutlet::new(results.writer()));
             put_for(results.writer(), b'\n', b'|');
             match outcome {
-                Ok(()) => results.end_line(),
+                Ok(()) => {
+                    let _ = results.writer().pop();
+                }
                 Err(ReplayFault::Write) => results.word(" unwritten"),
                 Err(ReplayFault::Memory(number)) => {
                     results.word(" memory");

@@ -32,39 +32,34 @@ fn tell_location(location: Option<UriPath>, results: &mut RowLine) {
     results.word(";");
 }
 
-/// Returns the word for a change.
-fn word_of_change(change: &Change) -> &'static str {
-    match change {
+/// Writes the words for the change and for the effect on the observer.
+fn tell_effects(plan: &Plan, results: &mut RowLine) {
+    results.word(match plan.change() {
         Change::Nothing => "-",
         Change::Put { .. } => "Put",
         Change::Delete(_) => "Delete",
-    }
-}
-
-/// Returns the word for a change whose path is in the options of its request.
-fn word_of_planned(change: &PlannedChange) -> &'static str {
-    match change {
-        PlannedChange::Nothing => "-",
-        PlannedChange::Put { .. } => "Put",
-        PlannedChange::Delete { .. } => "Delete",
-    }
-}
-
-/// Returns the word for the effect on the observer.
-fn word_of_watch(watch: Watch) -> &'static str {
-    match watch {
+    });
+    results.word(match plan.watch() {
         Watch::Nothing => "-",
         Watch::Add => "Add",
         Watch::Drop => "Drop",
-    }
+    });
+}
+
+/// Writes the word for a change whose path is in the options of its request.
+fn tell_planned_change(change: &PlannedChange, results: &mut RowLine) {
+    results.word(match change {
+        PlannedChange::Nothing => "-",
+        PlannedChange::Put { .. } => "Put",
+        PlannedChange::Delete { .. } => "Delete",
+    });
 }
 
 /// Writes a plan: the code, the change, the effect on the observer, each part of the response, and the payload. Writes
 /// the change again, as the plan gives it up.
 fn tell_plan(plan: Plan, results: &mut RowLine) {
-    results.number(u64::from(plan.code().byte()));
-    results.word(word_of_change(&plan.change()));
-    results.word(word_of_watch(plan.watch()));
+    results.number(plan.code().byte() as u64);
+    tell_effects(&plan, results);
     results.debug(&plan.hold());
     results.debug(&plan.etag());
     results.debug(&plan.format());
@@ -72,7 +67,7 @@ fn tell_plan(plan: Plan, results: &mut RowLine) {
     tell_location(plan.location(), results);
     results.debug(&plan.size1());
     results.hex(plan.payload());
-    results.word(word_of_planned(plan.into_change().change()));
+    tell_planned_change(plan.into_change().change(), results);
 }
 
 /// Returns the plan for the request that the bytes encode, at the given time. The plan borrows the store and these
@@ -116,7 +111,11 @@ fn tell_path(path: &PathKey, request: &MessageRef, results: &mut RowLine) {
         results.hex(segment);
     }
     results.debug(&(path.duplicate() == *path));
-    results.debug(&request_path(request).is_some_and(|fields| fields == *path));
+    let is_path_of_request = match request_path(request) {
+        Some(fields) => fields == *path,
+        None => false,
+    };
+    results.debug(&is_path_of_request);
 }
 
 /// Writes a state, or nothing if the resource is absent.

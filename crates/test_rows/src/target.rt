@@ -16,7 +16,7 @@ fn tell_parts(parts: &[Vec<u8>], results: &mut RowLine) {
 pub(crate) fn tell_target(target: &Target, results: &mut RowLine) {
     results.debug(&target.is_address());
     results.hex(target.host());
-    results.number(u64::from(target.port()));
+    results.number(target.port() as u64);
     tell_parts(target.segments(), results);
     tell_parts(target.arguments(), results);
 }

@@ -46,14 +46,13 @@ const CODES: [Code; 26] = [
 fn tell_codes(codes: &[Code], results: &mut RowLine) {
     for code in codes {
         results.hex(&[code.byte()]);
-        results.number(u64::from(code.class()));
-        results.number(u64::from(code.detail()));
+        results.sizes(&[code.class() as usize, code.detail() as usize]);
     }
 }
 
 /// Writes an option.
 fn tell_option(option: &OptionRef, results: &mut RowLine) {
-    results.number(u64::from(option.number));
+    results.number(option.number as u64);
     results.hex(option.value);
 }
 
@@ -64,7 +63,10 @@ fn read(bytes: &[u8], results: &mut RowLine) {
             results.hex(&[message.code().byte()]);
             results.hex(message.token().bytes());
             let mut options = message.options();
-            for option in options.by_ref() {
+            for _ in 0..bytes.len() {
+                let Some(option) = options.next() else {
+                    break;
+                };
                 tell_option(&option, results);
             }
             results.debug(&options.next().is_some());
@@ -81,7 +83,10 @@ fn known(bytes: &[u8], results: &mut RowLine) {
         return results.word("strange");
     };
     let mut options = message.known();
-    for option in options.by_ref() {
+    for _ in 0..bytes.len() {
+        let Some(option) = options.next() else {
+            break;
+        };
         tell_option(&option, results);
     }
     results.debug(&options.next().is_some());
@@ -103,9 +108,9 @@ fn tell_built(message: &Builder, room: &mut [u8], results: &mut RowLine) {
 
 /// Adds an option if the name is a number, otherwise the payload, and writes the error if that fails.
 fn add<'a>(message: &mut Builder<'a>, name: &str, value: &'a [u8], results: &mut RowLine) {
-    let answer = match name.parse::<u16>() {
-        Ok(number) => message.option(number, value),
-        Err(_) => message.payload(value),
+    let answer = match name {
+        "payload" => message.payload(value),
+        _ => message.option(number(name).min(65_535) as u16, value),
     };
     if let Err(fault) = answer {
         results.fault(&fault, fault as u8);
@@ -134,7 +139,13 @@ fn build<'a>(
     room: &mut [u8],
     results: &mut RowLine,
 ) {
-    for word in text.split(' ') {
+    let mut words = text;
+    for _ in 0..text.len() {
+        if words.is_empty() {
+            break;
+        }
+        let (word, later) = cut(words);
+        words = later;
         let (name, length) = word.split_once('=').unwrap_or((word, ""));
         let (value, later) = rest.split_at_checked(number(length)).unwrap_or_default();
         rest = later;
@@ -171,8 +182,7 @@ fn tell_kind(number: usize, results: &mut RowLine) {
     };
     if let Some(kind) = kind(number) {
         results.debug(&kind.repeatable);
-        results.number(u64::from(kind.min));
-        results.number(u64::from(kind.max));
+        results.sizes(&[kind.min as usize, kind.max as usize]);
     }
 }
 

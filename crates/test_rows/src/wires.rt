@@ -119,6 +119,6 @@ impl Clock for Moments<'_> {
     fn now(&mut self) -> u64 {
         let (word, rest) = self.text.split_once(',').unwrap_or((self.text, self.text));
         self.text = rest;
-        word.parse::<u64>().unwrap_or(0)
+        number(word) as u64
     }
 }

@@ -23,8 +23,8 @@ def reported_as(event):
     word = event.partition(" ")[0]
 
     def reported(line):
-        found = re.fullmatch(r"(.*)max (\d+) (kept \d+ spent \d+) copied (\d+)", quoted(line))
-        what, largest, kept, copied = found.groups()
+        what, largest, kept, spent, copied = re.fullmatch(r"(.*)max (\d+) (\d+) (\d+) (\d+)", quoted(line)).groups()
+        kept = f"kept {kept} spent {spent}"
         if word in ("next", "each", "all", "hold"):
             return what + kept
         return what + (f"copied {copied} {kept}" if word == "copied" else f"max {largest} {kept}")

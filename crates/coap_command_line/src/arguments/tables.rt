@@ -12,7 +12,7 @@
 //!    in `script_clash`, `stdio_clash`, `listener_clash` or `alone_clash` (`reasons.rt`, `Reasons.antt`).
 //! 4. Its use in `program_server`. If it is a limit: `Limits` (`coap_conn`) or `Config` (`coap_model`) with builders,
 //!    definitions and views, `planned` (`program_server_common`), and for C `settings.rt` and `include/dachreup.h`.
-//! 5. If a replay depends on it: `options` (`header.rt`) and `options_text` of `program_server_common`,
+//! 5. If a replay depends on it: `numbers` (`header.rt`) and `options_text` of `program_server_common`,
 //!    `replay_config` and the proof `OptionWalk.antt` of `program_explain`.
 //! 6. `tell_server` (`test_rows/src/command_line.rt`) and `reported_server` (`tests/harness/layers/words.py`).
 //! 7. Rows `words/server_plans` and `server_faults`; `tests/system/program/server_arguments.py`; mutants.

@@ -66,7 +66,7 @@ impl Application for Oven {
     }
 
     fn gone(&mut self, id: ConnId) {
-        if self.waiting.as_ref().is_some_and(|(from, _)| *from == id) {
+        if matches!(&self.waiting, Some((from, _)) if *from == id) {
             self.waiting = None;
         }
     }
