@@ -68,4 +68,6 @@ impl<D: Wires> Door for Polled<D> {
     }
 
     fn wait(&mut self, _wait: Wait, _opens: bool) {}
+
+    fn closed(&mut self, _wire: Tried<D::Wire>) {}
 }

@@ -1,8 +1,8 @@
 //! Transport connections, the listener that hands them out, and the clock.
 
 ghost use Rattle.std.specs.Prelude.{◌≡◌, ◌≤◌, ℕ, Bool, List, [], ◌∷◌, length, Option, None, option_and_then};
-ghost use Rattle.coap_io.specs.Prelude.{AddsBytes, AddsCalls, DoorCall, Requested, Waited, IsWithin, MatchesTrace};
-ghost use Rattle.coap_io.specs.Prelude.{bytes_passed, Got, wait_at_most};
+ghost use Rattle.coap_io.specs.Prelude.{AddsBytes, AddsCalls, Closed, DoorCall, Requested, Waited, IsWithin};
+ghost use Rattle.coap_io.specs.Prelude.{MatchesTrace, bytes_passed, Got, wait_at_most};
 
 /// Result of a read or a write of a wire.
 #[derive(Clone, Copy, Debug, PartialEq, Eq)]
@@ -126,6 +126,10 @@ pub trait Door {
     /// already.
     fn wait(&mut self, wait: Wait, opens: bool)
         ensures { AddsCalls (calls self.old) (calls self.new) (Waited wait opens ∷ []) };
+
+    /// Takes back the wire of a connection that has ended. To drop it closes the transport connection.
+    fn closed(&mut self, wire: Self::Wire)
+        ensures { AddsCalls (calls self.old) (calls self.new) (Closed wire ∷ []) };
 
     /// Returns the places of the wires that may have become ready since the last call, and perhaps others. The default
     /// is `None`: any wire may have become ready. While no call names a wire with a place and nobody uses the wire, its

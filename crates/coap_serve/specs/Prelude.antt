@@ -3,32 +3,29 @@
 
 -- ---- std and the kit's crates
 pub use Rattle.indexmap.specs.IndexMap.{insert_entry, set_value_at, shift_remove_entry}
-pub use Rattle.std.specs.List.{AllByRecursion}
-pub use Rattle.std.specs.List.{concat}
+pub use Rattle.std.specs.List.{AllByRecursion, concat}
 unfoldable pub use Rattle.std.specs.List.{IsDistinct}
 pub use Rattle.std.specs.Map.{keys_of, values_of}
 -- ---- coap_wire
-pub use Rattle.coap_server_engine.specs.Prelude.{RefusedBy, AddsBytes, RefusedOrMemory, WrittenFault}
-pub use Rattle.coap_server_engine.specs.Prelude.{AcceptedCall, Stored, Removed, Opened, Took, Dropped, Released}
-pub use Rattle.coap_server_engine.specs.Prelude.{InResult, ShowsMore, in_result, fed_more, took, Answering, Exchange}
-pub use Rattle.coap_server_engine.specs.Prelude.{Gone, AreRequestedLater, IsRequestedLater, Following, IsReasonFor}
-pub use Rattle.coap_server_engine.specs.Prelude.{stop_on}
+pub use Rattle.coap_server_engine.specs.Prelude.{RefusedBy, AddsBytes, RefusedOrMemory, WrittenFault, AcceptedCall}
+pub use Rattle.coap_server_engine.specs.Prelude.{Stored, Removed, Opened, Took, Dropped, Released, InResult, ShowsMore}
+pub use Rattle.coap_server_engine.specs.Prelude.{in_result, fed_more, took, Answering, Exchange, Gone}
+pub use Rattle.coap_server_engine.specs.Prelude.{AreRequestedLater, IsRequestedLater, Following, IsReasonFor, stop_on}
 pub use Rattle.coap_server_engine.specs.Prelude.{open_refusal, written_refusal, released_refusal, status_of, IsOutside}
 pub use Rattle.coap_server_engine.specs.Prelude.{bit_of, new_server, server_put, server_removed, server_ticked}
 pub use Rattle.coap_server_engine.specs.Prelude.{AreSettled, server_dropped, ServerValue, LiesAt, server_opened}
 pub use Rattle.coap_server_engine.specs.Prelude.{is_there, server_released, settled_entry, count_on, session_becomes}
 pub use Rattle.coap_server_engine.specs.Prelude.{SessionValue, session_written, session_ended, session_released}
-pub use Rattle.coap_server_engine.specs.Prelude.{session_takes, Shows}
-pub use Rattle.coap_server_engine.specs.Prelude.{Stream, split_on, LimitValues, AreInRange, Reason, ConfigValues, Taken}
-pub use Rattle.coap_server_engine.specs.Prelude.{count_of, handled_in, World, Step, IsNotTaken, RefusesPieceOn}
-pub use Rattle.coap_server_engine.specs.Prelude.{server_written, session_shown, ShowsRefused}
-pub use Rattle.coap_server_engine.specs.Prelude.{FormatFault, ReleaseFault, Responded, Ticked, WasRefused, WasTaken}
-pub use Rattle.coap_server_engine.specs.Prelude.{can_take_on, handed_by, responded_refusal, response_event}
+pub use Rattle.coap_server_engine.specs.Prelude.{session_takes, Shows, Stream, split_on, LimitValues, AreInRange}
+pub use Rattle.coap_server_engine.specs.Prelude.{Reason, ConfigValues, Taken, count_of, handled_in, World, Step}
+pub use Rattle.coap_server_engine.specs.Prelude.{IsNotTaken, RefusesPieceOn, server_written, session_shown}
+pub use Rattle.coap_server_engine.specs.Prelude.{ShowsRefused, FormatFault, ReleaseFault, Responded, Ticked, WasRefused}
+pub use Rattle.coap_server_engine.specs.Prelude.{WasTaken, can_take_on, handed_by, responded_refusal, response_event}
 pub use Rattle.coap_server_engine.specs.Prelude.{takes_messages}
 pub use Rattle.coap_server_engine.specs.declared.monitor.DropReason.{DropReason}
 pub use Rattle.coap_server_engine.specs.values.ApplicationCalls.{AreGivenLater, AreMade, HasResponseRoom}
-pub use Rattle.coap_server_engine.specs.values.ApplicationCalls.{IsPartlyServed, NothingGiven, OneMoreGiven}
-pub use Rattle.coap_server_engine.specs.values.ApplicationCalls.{ask_result, asking, offered_events}
+pub use Rattle.coap_server_engine.specs.values.ApplicationCalls.{IsPartlyServed, NothingGiven, OneMoreGiven, ask_result}
+pub use Rattle.coap_server_engine.specs.values.ApplicationCalls.{asking, offered_events}
 unfoldable pub use Rattle.coap_server_engine.specs.values.ApplicationCalls.{message_limit, served}
 -- ---- coap_conn
 pub use Rattle.coap_conn.specs.Phases.{is_over, stop_of}
@@ -39,7 +36,7 @@ pub use Rattle.coap_io.specs.declared.wire.Got.{Got}
 pub use Rattle.coap_io.specs.declared.wire.Got.TheVariants.{Bytes, End, Failed, Later}
 pub use Rattle.coap_io.specs.declared.wire.Wait.{Wait}
 pub use Rattle.coap_io.specs.declared.wire.Wait.TheVariants.{No}
-pub use Rattle.coap_io.specs.streams.DeviceTraces.{AddsCalls, DoorCall}
+pub use Rattle.coap_io.specs.streams.DeviceTraces.{AddsCalls, Closed, DoorCall, Waited}
 pub use Rattle.coap_io.specs.streams.Wires.{IsWithin, IsOneWrite, bytes_passed, Answered, WireTrace, trace_by}
 pub use Rattle.coap_io.specs.streams.Device.{DeviceTrace, HasGiven, pieces_read, WritesPart}
 -- ---- coap_store
@@ -51,43 +48,41 @@ pub use Rattle.coap_serve.specs.declared.door.peer.PeerOutcome.TheVariants.{Over
 pub use Rattle.coap_serve.specs.declared.door.peer.Peer.{Peer}
 pub use Rattle.coap_serve.specs.declared.door.peer_interest.PeerInterest.{PeerInterest}
 pub use Rattle.coap_server_engine.specs.declared.io_fault.IoFault.{IoFault}
-pub use Rattle.coap_server_engine.specs.declared.io_fault.IoFault.TheVariants.{Memory}
-pub use Rattle.coap_server_engine.specs.declared.io_fault.IoFault.TheVariants.{Read, Turns, Write}
+pub use Rattle.coap_server_engine.specs.declared.io_fault.IoFault.TheVariants.{Memory, Read, Turns, Write}
 pub use Rattle.coap_server_engine.specs.declared.server.ConnectionWork.{ConnectionWork}
 -- ---- runs
 pub use Rattle.coap_serve.specs.declared.door.service.ServiceConfig.{ServiceConfig}
 pub use Rattle.coap_serve.specs.declared.door.service.Times.{Times}
 pub use Rattle.coap_serve.specs.listener.Histories.{AreCallsBetween, AreSteps, Continues, HasAccepted, History}
-pub use Rattle.coap_serve.specs.listener.Histories.{IsAccepted, Journal, calls_only, history_then, journal, known_by}
+pub use Rattle.coap_serve.specs.listener.Histories.{IsAccepted, Journal, calls_only, door_only, history_then, journal}
 pub use Rattle.coap_serve.specs.listener.Histories.{NoStep, OneMore, no_history, one_call, one_drop}
-pub use Rattle.coap_serve.specs.listener.Run.{LaterGiven, NoneMade, OneMade, SilentDropped, SilentReleased, TimeSet}
-pub use Rattle.coap_serve.specs.listener.Run.{TurnMade}
-pub use Rattle.coap_serve.specs.listener.Run.{AreTurns, EndsRun, Environment, HasRun, IsBegun, IsCutRun, IsCutTurn}
-pub use Rattle.coap_serve.specs.listener.Run.{IsRun, IsRunCall, IsRunStep, IsTurnFor, KnownOfRun, Matches, Resting}
-pub use Rattle.coap_serve.specs.listener.Run.{RunTrace, ServiceValue, Silent, Unlimited, clock_and_door, config_of}
-pub use Rattle.coap_serve.specs.listener.Run.{environment, exactly, known_of_run, limit_for, moved_calls, moved_to}
-pub use Rattle.coap_serve.specs.listener.Run.{no_trace, plain_config, service_of, short_wait, some_waits, ticked_calls}
-pub use Rattle.coap_serve.specs.listener.Run.{trace_then, turn_trace, wait_within, waited_after}
-pub use Rattle.coap_serve.specs.listener.Serving.{AreServed, HasGoneOn, HasOpened, HasServed}
-pub use Rattle.coap_serve.specs.listener.Serving.{HasTurned, IsRequestedOnce, IsOpening, IsTurnBy}
-pub use Rattle.coap_serve.specs.listener.Serving.{AreTakenWith, BytesTaken, BytesWritten, ConnectionDropped}
-pub use Rattle.coap_serve.specs.listener.Serving.{InputEnded, IsVisitStep, IsVisited}
-pub use Rattle.coap_serve.specs.listener.Serving.{KnownOfTurn, LoopState, NoMore, Skipped, Views, Visited, Way}
-pub use Rattle.coap_serve.specs.listener.Serving.{door_calls, history_left, known_of_turn, loop_state, opening}
-pub use Rattle.coap_serve.specs.listener.Serving.{opening_then, status_of_peer, views_of, visit, way}
-pub use Rattle.coap_serve.specs.listener.Silence.{HasSwept, HasSweptAt, Sweep, acted, drop_one, due_sweep, quiet_action}
-pub use Rattle.coap_serve.specs.listener.Silence.{released_at, released_on, silence_action, swept_one, unswept}
+pub use Rattle.coap_serve.specs.listener.Run.{DoorWaited, LaterGiven, NoneMade, OneMade, SilentDropped, SilentReleased}
+pub use Rattle.coap_serve.specs.listener.Run.{TimeSet, TurnMade, WireReturned, AreTurns, EndsRun, Environment, HasRun}
+pub use Rattle.coap_serve.specs.listener.Run.{IsBegun, IsCutRun, IsCutTurn, IsRun, IsRunCall, IsRunStep, IsTurnFor}
+pub use Rattle.coap_serve.specs.listener.Run.{KnownOfRun, Matches, Resting, RunTrace, ServiceValue, Silent, Unlimited}
+pub use Rattle.coap_serve.specs.listener.Run.{clock_and_door, closings, config_of, ended, environment}
+pub use Rattle.coap_serve.specs.listener.Run.{known_of_run, limit_for, moved_calls, moved_to, no_trace, plain_config}
+pub use Rattle.coap_serve.specs.listener.Run.{service_of, short_wait, some_waits, ticked_calls, trace_then, turn_trace}
+pub use Rattle.coap_serve.specs.listener.Run.{wait_within, waited_after}
+pub use Rattle.coap_serve.specs.listener.Serving.{AreOpened, AreServed, HasGoneOn, HasServed, HasTurned, IsOpening}
+pub use Rattle.coap_serve.specs.listener.Serving.{AreTurnSteps, IsTurnBy, NotOpened, VisitsMade, AreTakenWith}
+pub use Rattle.coap_serve.specs.listener.Serving.{BytesTaken, BytesWritten, ConnectionDropped, InputEnded, IsVisitStep}
+pub use Rattle.coap_serve.specs.listener.Serving.{IsVisited, LoopState, NoMore, Skipped, Views, Visited, Way}
+pub use Rattle.coap_serve.specs.listener.Serving.{loop_state, opened_for, opening}
+pub use Rattle.coap_serve.specs.listener.Serving.{opening_events, status_of_peer, views_of, visit, way}
+pub use Rattle.coap_serve.specs.listener.Silence.{HasSwept, HasSweptAt, Sweep, acted, drop_one, due_sweep, given_back}
+pub use Rattle.coap_serve.specs.listener.Silence.{quiet_action, released_at, released_on, silence_action, swept_one}
+pub use Rattle.coap_serve.specs.listener.Silence.{unswept}
 unfoldable pub use Rattle.coap_serve.specs.listener.Silence.{swept}
 pub use Rattle.coap_serve.specs.listener.Sleepers.{ArePaired, AreAsleep, KeepsBeside, MaySleep, SleepOn, is_known_ready}
 pub use Rattle.coap_serve.specs.listener.Sleepers.{known}
 pub use Rattle.coap_serve.specs.listener.Turns.{CanAnyGoOn, CanGoOn, IsReadiness, IsOutcomeFor, IsLaidOut, IsNoOp}
-pub use Rattle.coap_serve.specs.listener.Turns.{IsOffered, have_moved, moves}
-pub use Rattle.coap_serve.specs.listener.Turns.{IsTakenAlone, IsTakenAndWritten, IsTakenInPart}
-pub use Rattle.coap_serve.specs.listener.Turns.{IsTakenWith, IsWaitAfter, PeerStatus, Readiness, VisitState}
-pub use Rattle.coap_serve.specs.listener.Turns.{activity_after, can_go_on, peer_outcome, has_failed, has_written}
-pub use Rattle.coap_serve.specs.listener.Turns.{read_events, is_read_due, is_over_in, least_with, kept_unless}
-pub use Rattle.coap_serve.specs.listener.Turns.{new_activity, peer_status, readiness, refused_events, kept_rest}
-pub use Rattle.coap_serve.specs.listener.Turns.{server_read, server_wrote, status_with, visit_state}
+pub use Rattle.coap_serve.specs.listener.Turns.{IsOffered, have_moved, moves, IsTakenAlone, IsTakenAndWritten}
+pub use Rattle.coap_serve.specs.listener.Turns.{IsTakenInPart, IsTakenWith, IsWaitAfter, PeerStatus, Readiness}
+pub use Rattle.coap_serve.specs.listener.Turns.{VisitState, activity_after, can_go_on, peer_outcome, has_failed}
+pub use Rattle.coap_serve.specs.listener.Turns.{has_written, read_events, is_read_due, is_over_in, least_with}
+pub use Rattle.coap_serve.specs.listener.Turns.{kept_unless, new_activity, peer_status, readiness, refused_events}
+pub use Rattle.coap_serve.specs.listener.Turns.{kept_rest, server_read, server_wrote, status_with, visit_state}
 pub use Rattle.coap_serve.specs.listener.Turns.{wait_until, waiting_once, interest_in, interest_of, wrote_events}
 pub use Rattle.coap_serve.specs.declared.serve_streams.Report.{Report}
 pub use Rattle.coap_serve.specs.declared.serve_streams.Turn.{Turn}
@@ -99,15 +94,14 @@ pub use Rattle.coap_serve.specs.streams.StdioProgress.{AreTransfersOf, HasRead, 
 pub use Rattle.coap_serve.specs.streams.StdioProgress.{IsRunningAt, IsTurn, IsWhole, Says}
 pub use Rattle.coap_serve.specs.streams.StdioRun.{AreNotEmpty, GoesOn, IsLastByte, IsStdioRun, LeavesNothing}
 pub use Rattle.coap_serve.specs.streams.StdioRun.{LeavesNothingWaiting}
-pub use Rattle.coap_server_engine.specs.values.Faults.{IsMemory, IsMemoryOrTurns}
-pub use Rattle.coap_server_engine.specs.values.Faults.{is_read_fault, is_write_fault}
+pub use Rattle.coap_server_engine.specs.values.Faults.{IsMemory, IsMemoryOrTurns, is_read_fault, is_write_fault}
 -- ---- coap_server_engine and coap_server_session
 pub use Rattle.coap_server_session.specs.values.Deadlines.{sooner}
 unfoldable pub use Rattle.coap_server_engine.specs.values.Exchanges.{AnswersMore}
 unfoldable pub use Rattle.coap_server_engine.specs.values.Calls.{FollowsMore}
 unfoldable pub use Rattle.coap_server_engine.specs.values.InResults.{fed_turns, took_turns}
-pub use Rattle.coap_server_engine.specs.values.Flushes.{waiting_at, waiting_in}
-pub use Rattle.coap_server_engine.specs.values.Flushes.{IsFlushed, IsFlushedOnce, more_at, more_in}
+pub use Rattle.coap_server_engine.specs.values.Flushes.{waiting_at, waiting_in, IsFlushed, IsFlushedOnce, more_at}
+pub use Rattle.coap_server_engine.specs.values.Flushes.{more_in}
 pub use Rattle.coap_server_engine.specs.values.ServerDeadlines.{KeepsOthers, KeepsWork, work_of, session_work}
 unfoldable pub use Rattle.coap_server_engine.specs.values.Servers.{session_of, count_taken, server_taken}
 unfoldable pub use Rattle.coap_server_engine.specs.values.Flushes.{flush_turns}

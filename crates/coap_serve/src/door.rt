@@ -1,6 +1,6 @@
 //! Runs a server over the connections that a listener (`Door`) accepts.
 
-ghost use Rattle.coap_serve.specs.Prelude.{environment, known_by, known_of_run, some_waits, IsMemoryOrTurns};
+ghost use Rattle.coap_serve.specs.Prelude.{environment, Continues, journal, known_of_run, some_waits, IsMemoryOrTurns};
 ghost use Rattle.coap_serve.specs.Prelude.{IsRun, Resting, Silent, Unlimited, AddsCalls, clock_and_door};
 ghost use Rattle.coap_serve.specs.Prelude.{plain_config, views_of, waited_after};
 
@@ -54,6 +54,7 @@ impl Clock for NoUptime {
 /// A connection is not read if it accepts no bytes. Either it has stopped or was released (RFC 8323 section 5.5), or
 /// its queue has no room for a message of the maximum size. A connection is read and written only if it is ready. A
 /// connection is dropped if its transport has failed or nothing more will be written. This affects no other connection.
+/// The listener gets back the wire of each dropped connection, and at the end those of all others.
 ///
 /// The listener waits between turns, and then the clock is read. The wait is zero if and only if a connection was
 /// opened in the turn, or something can be done at once on a connection.
@@ -61,9 +62,6 @@ impl Clock for NoUptime {
 /// Otherwise the wait ends as soon as a connection is ready, or a client connects and another connection may be opened.
 /// The wait ends at the latest when time alone may queue something. At that time a delayed response is due or an
 /// observer of `/time` must be notified. A connection on which nothing can be done is skipped.
-///
-/// The server and its connections do not outlive the call, so the clause `run` states that matching values exist. The
-/// contract of `Service::turn` states how each connection is served, so it rejects an implementation that serves none.
 ///
 /// # Errors
 ///
@@ -119,8 +117,9 @@ pub fn serve_door_with<D: Door, C: Clock, U: Clock, A: Application, M: Monitor<D
     ensures run { IsRun (environment A.follows A.idle (some_waits A.waits) (views_of D.Wire.readable D.Wire.writable
         D.Wire.given D.Wire.written D.Wire.answers D.Wire.rooms)) config (known_of_run (AddsCalls
         (C.moments clocks.old.time) (C.moments clocks.new.time)) (AddsCalls (U.moments clocks.old.uptime)
-        (U.moments clocks.new.uptime)) (AddsCalls (D.calls door.old) (D.calls door.new)) (known_by M.follows A.follows
-        monitor.old monitor.new application.old application.new)) result }
+        (U.moments clocks.new.uptime)) (Continues
+        (journal (M.follows monitor.old) (A.follows application.old) (D.calls door.old))
+        (journal (M.follows monitor.new) (A.follows application.new) (D.calls door.new)))) result }
 {
     run(
         Setup { alloc, config },
@@ -151,8 +150,9 @@ fn run<D: Door, C: Clock, U: Clock, A: Application, M: Monitor<D::Wire>>(
     ensures run { IsRun (environment A.follows A.idle (some_waits A.waits)
         (views_of D.Wire.readable D.Wire.writable D.Wire.given D.Wire.written D.Wire.answers D.Wire.rooms))
         setup.config (known_of_run (AddsCalls (C.moments clock.old) (C.moments clock.new))
-        (AddsCalls (U.moments uptime.old) (U.moments uptime.new)) (AddsCalls (D.calls door.old) (D.calls door.new))
-        (known_by M.follows A.follows monitor.old monitor.new application.old application.new)) result }
+        (AddsCalls (U.moments uptime.old) (U.moments uptime.new)) (Continues
+        (journal (M.follows monitor.old) (A.follows application.old) (D.calls door.old))
+        (journal (M.follows monitor.new) (A.follows application.new) (D.calls door.new)))) result }
 {
     let Setup { alloc, config } = setup;
     let turns = config.config.turns();
@@ -174,6 +174,7 @@ fn run<D: Door, C: Clock, U: Clock, A: Application, M: Monitor<D::Wire>>(
             }
         }
     }
+    service.close(door);
     Err(fault)
 }
 

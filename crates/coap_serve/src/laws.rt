@@ -55,6 +55,6 @@ pub fn idle_connections_may_be_skipped()
 /// States that a run stores and removes no resource for the embedding program, and announces no message size. So a
 /// script makes each call of a run again, from its line in a record alone.
 #[tactic(auto, using(crate::proofs::listener::ConfigLemmas::run_made))]
-pub fn a_run_announces_no_size()
-    ensures { (v after : ServerValue) (h : History) → AreSteps IsRunStep v after h → All IsRunCall h.events }
+pub fn a_run_announces_no_size<W>()
+    ensures { (v after : ServerValue) (h : History W) → AreSteps IsRunStep v after h → All IsRunCall h.events }
 {}

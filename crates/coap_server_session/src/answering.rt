@@ -8,7 +8,7 @@ ghost use Rattle.coap_server_session.specs.Prelude.{changed, response_message, p
 ghost use Rattle.coap_server_session.specs.Prelude.{IsChangeAt, IsPut, TakesChange, change_hash, MayObserve};
 ghost use Rattle.coap_server_session.specs.Prelude.{asks_entry as asks, is_whole as is_sent_whole, ObserverValue};
 ghost use Rattle.coap_server_session.specs.Prelude.{answer_on, delay_on, delay_in, shared_changed, link_sent};
-ghost use Rattle.coap_server_session.specs.Prelude.{new_entry};
+ghost use Rattle.coap_server_session.specs.Prelude.{new_entry, response_with_observe};
 ghost use Rattle.coap_server_session.specs.Prelude.{application_deadline, only, is_handed};
 ghost use Rattle.coap_server_session.specs.Prelude.{notification_on, without_entry, IsFirstStale, link_replied};
 ghost use Rattle.coap_server_session.specs.Prelude.{entries_replied, entries_notified, observer_value, LARGEST_MESSAGE};
@@ -21,6 +21,7 @@ use crate::observers::{Observers, StaleObserver};
 use crate::path_hash::{hash_of, hash_of_request};
 use crate::response::{respond, respond_change};
 use crate::server_state::{ServerState, mark_at};
+use crate::take_outcome::RequestEffect;
 use coap_conn::{Due, Link, Reply};
 use coap_store::{
     ChangePlan, ObservedPath, Plan, PlannedChange, State, Store, UriPath, Watch, delayed_response,
@@ -28,27 +29,6 @@ use coap_store::{
 };
 use coap_wire::{Code, MessageRef, TokenRef};
 use std::alloc::AllocError;
-
-/// Effect of a request on the store and on the application.
-#[derive(Clone, Copy)]
-pub(crate) struct RequestEffect {
-    /// Hash of the path at which the request stored or deleted a resource, if it did.
-    pub changed: Option<u8>,
-    /// `true` if the request became a pending entry of the application.
-    pub handed: bool,
-}
-
-impl RequestEffect {
-    /// Returns the effect of a message that changes nothing and is not handed to the application.
-    pub fn none() -> RequestEffect
-        ensures { result ≡ record { changed = None; handed = false } }
-    {
-        RequestEffect {
-            changed: None,
-            handed: false,
-        }
-    }
-}
 
 /// Processes a request: applies its change, removes its observer, and sends or delays its response.
 ///
@@ -156,10 +136,7 @@ fn answer_from_store(
     }
     if plan.changes() {
         let planned = plan.into_change();
-        let changed = change(&mut shared.store, &planned, index)?;
-        observers.remove_token(request.token());
-        mark_changed(observers, changed, shared);
-        respond_change(link, request.token(), &planned);
+        let changed = answer_change(link, observers, shared, request.token(), planned, index)?;
         return Ok(changed);
     }
     observers.remove_token(request.token());
@@ -169,6 +146,46 @@ fn answer_from_store(
         add_observer(observers, shared, request);
     }
     Ok(None)
+}
+
+/// Applies the change of a plan that the store returned with this index, removes the observer with this token, and
+/// sends the response. Returns the hash of the path at which a resource was stored or deleted.
+///
+/// # Errors
+///
+/// Returns `AllocError` if allocation fails for the stored representation. Nothing has changed then.
+// Never inlined, since a function clears all its locals.
+#[inline(never)]
+fn answer_change(
+    link: &mut Link,
+    observers: &mut Observers,
+    shared: &mut ServerState,
+    token: &TokenRef,
+    planned: ChangePlan,
+    index: Option<usize>,
+) -> Result<Option<u8>, AllocError>
+    requires ready { IsReady link.old }
+    requires answering { IsAnswering link.old.phase }
+    requires taken { TakesChange shared.old.store planned.change }
+    requires index { IfSome index (λ index. IsChangeAt shared.old.store planned.change index) }
+    requires marked { AreMarked shared.old observers.old.entries observers.old.marks }
+    ensures changed { IfOk result (λ changed. changed ≡ change_hash planned.entry.change) }
+    ensures link { OnOk result (link.new ≡ link_after link.old
+        (call.Reply (response_with_observe token.now false planned.entry.response))) }
+    ensures entries { OnOk result (observers.new.entries ≡ without_entry token.now observers.old.entries) }
+    ensures room { OnOk result (observers.new.room ≡ observers.old.room) }
+    ensures marked { OnOk result (AreMarked shared.new observers.new.entries observers.new.marks) }
+    ensures shared { OnOk result (shared.new ≡ shared_changed shared.old planned.entry.change) }
+    ensures put { OnErr result (IsPut planned.entry.change) }
+    ensures unchanged { OnErr result (shared.new ≡ shared.old) }
+    ensures silent { OnErr result (link.new ≡ link.old) }
+    ensures kept { OnErr result (observers.new ≡ observers.old) }
+{
+    let changed = change(&mut shared.store, &planned, index)?;
+    observers.remove_token(token);
+    mark_changed(observers, changed, shared);
+    respond_change(link, token, &planned);
+    Ok(changed)
 }
 
 /// Applies the change of a plan that this store returned with this index, and returns the hash of its path.

@@ -21,8 +21,10 @@ mod path_hash;
 mod response;
 mod server_state;
 mod session;
+mod take_outcome;
 
 pub use cause::Cause;
 pub use path_hash::hash_of;
 pub use server_state::ServerState;
-pub use session::{Session, TakeOutcome, sooner};
+pub use session::{Session, sooner};
+pub use take_outcome::{StorageError, TakeOutcome};

@@ -19,9 +19,10 @@ ghost use Rattle.coap_server_session.specs.contracts.session.Session.{the_row};
 mod due;
 mod settling;
 
-use crate::answering::{RequestEffect, answer};
+use crate::answering::answer;
 use crate::observers::Observers;
 use crate::server_state::ServerState;
+use crate::take_outcome::{RequestEffect, StorageError, TakeOutcome};
 use coap_conn::{Limits, Link, Phase, Reject, Reply, RespondFault, Role, SendFault, Verdict};
 use coap_frame::Framer;
 use coap_model::AnnounceFault;
@@ -29,33 +30,6 @@ use coap_wire::{LARGEST_MESSAGE, MessageRef};
 pub use due::sooner;
 use std::alloc::{AllocError, Global};
 use std::marker::Model;
-
-/// Result of `Session::take`.
-#[derive(Clone, Copy)]
-pub struct TakeOutcome {
-    /// Number of accepted bytes, which are the first of the slice.
-    pub count: usize,
-    /// `true` if a message was processed.
-    pub handled: bool,
-    /// Hash of the path at which the message stored or deleted a resource, if it did.
-    pub changed: Option<u8>,
-    /// `true` if the message is a request that was handed to the application.
-    pub handed: bool,
-}
-
-impl TakeOutcome {
-    /// Returns a result with `count` bytes and no message.
-    fn without_message(count: usize) -> TakeOutcome
-        ensures { result ≡ record { count = count; handled = false; changed = None; handed = false } }
-    {
-        TakeOutcome {
-            count,
-            handled: false,
-            changed: None,
-            handed: false,
-        }
-    }
-}
 
 /// Connection of a server: its framer, its link, and its observers. Contracts see a `MarkedSession`.
 #[derive(Drop)]
@@ -114,14 +88,18 @@ impl Session {
     ///
     /// # Errors
     ///
-    /// Returns the number of accepted bytes if allocation fails for the representation that the message stores. All its
-    /// bytes but the last are accepted then, and it was not processed.
+    /// Returns `StorageError` if allocation fails for the representation that the message stores. The message was not
+    /// processed.
     ///
     /// # Preconditions
     ///
     /// The changed marks of the observers are current.
     #[tactic(auto, unfolding(crate::specs::values::Sessions::taking, crate::specs::values::HandedRequests::handed, crate::specs::values::HandedRequests::completed, coap_frame::specs::Framing::framing))]
-    pub fn take(&mut self, shared: &mut ServerState, piece: &[u8]) -> Result<TakeOutcome, usize>
+    pub fn take(
+        &mut self,
+        shared: &mut ServerState,
+        piece: &[u8],
+    ) -> Result<TakeOutcome, StorageError>
         requires { IsMarked shared.old self.old }
         ensures count { IfOk result (λ t. t.count ≡ (taking shared.old self.old.session piece.now).count) }
         ensures within { IfOk result (λ t. t.count ≤ length piece.now) }
@@ -135,9 +113,9 @@ impl Session {
         ensures after { OnOk result (self.new.session ≡ (taking shared.old self.old.session piece.now).session) }
         ensures shared { OnOk result (shared.new
             ≡ shared_changed shared.old (taking shared.old self.old.session piece.now).change) }
-        ensures refused { IfErr result (λ count. RefusesPiece shared.old self.old.session piece.now count) }
-        ensures kept { IfErr result (λ count. self.new.session
-            ≡ (taking shared.old self.old.session (take count piece.now)).session) }
+        ensures refused { IfErr result (λ e. RefusesPiece shared.old self.old.session piece.now e.bytes) }
+        ensures kept { IfErr result (λ e. self.new.session
+            ≡ (taking shared.old self.old.session (take e.bytes piece.now)).session) }
         ensures unchanged { OnErr result (shared.new ≡ shared.old) }
         ensures marked { IsMarked shared.new self.new }
     {
@@ -171,7 +149,7 @@ impl Session {
                     }
                     Err(_) => {
                         self.framer.unread(&piece[..count]);
-                        Err(count - 1)
+                        Err(StorageError { bytes: count - 1 })
                     }
                 },
             },

@@ -345,6 +345,8 @@ impl<'a, R: Net + time::Clock> Door for SocketDoor<'a, R> {
         }
     }
 
+    fn closed(&mut self, _wire: SocketWire) {}
+
     fn woken(&self) -> Option<&[usize]>
         ensures { option_map (λ places. places.now) result ≡ named self.now.woken }
     {

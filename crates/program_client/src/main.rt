@@ -171,7 +171,7 @@ fn start(
 {
     let words = match PROGRAM.words(rt) {
         Ok(words) => words,
-        Err(status) => return status,
+        Err(exit) => return exit.status,
     };
     match client_words(rt.alloc(), &words) {
         Ok(mut plan) => run(rt, err, &mut plan),

@@ -9,5 +9,5 @@ mod program;
 mod standard;
 
 pub use files::{FileError, read_whole};
-pub use program::{ENDED, FAULT, Program, USAGE};
+pub use program::{ENDED, EarlyExit, FAULT, Program, USAGE};
 pub use standard::occupy_standard_descriptors;

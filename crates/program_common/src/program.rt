@@ -28,6 +28,13 @@ pub struct Program<'a> {
     pub name: &'a str,
 }
 
+/// End of a program before its run. The error was written to standard error.
+#[derive(Clone, Copy, Debug)]
+pub struct EarlyExit {
+    /// Exit status.
+    pub status: u8,
+}
+
 impl Program<'_> {
     /// Writes a line about an error to standard error, and returns the status.
     pub fn print_fault(&self, rt: &impl Eprint, what: impl Display + Drop, status: u8) -> u8
@@ -42,24 +49,28 @@ impl Program<'_> {
     ///
     /// # Errors
     ///
-    /// The exit status of the program. The error was written to standard error.
+    /// Returns `EarlyExit` with one of these statuses:
     ///
     /// - `USAGE`: an argument is not UTF-8.
     /// - `FAULT`: an allocation failed.
-    pub fn words(&self, rt: &(impl Eprint + Env + AllocGlobal)) -> Result<Vec<String>, u8>
-        ensures within { IfErr result (λ status. status ≤ 3) }
-        ensures known { IfErr result (λ status. (status ≡ 1) ⊎ (status ≡ 3)) }
+    pub fn words(&self, rt: &(impl Eprint + Env + AllocGlobal)) -> Result<Vec<String>, EarlyExit>
+        ensures within { IfErr result (λ exit. exit.status ≤ 3) }
+        ensures known { IfErr result (λ exit. (exit.status ≡ 1) ⊎ (exit.status ≡ 3)) }
     {
         let words = match env::args(rt) {
             Ok(words) => words_of(rt.alloc(), words),
             Err(fault) if fault.kind() != ErrorKind::OutOfMemory => {
-                return Err(self.print_fault(rt, "words that are not UTF-8", USAGE));
+                let status = self.print_fault(rt, "words that are not UTF-8", USAGE);
+                return Err(EarlyExit { status });
             }
             Err(_) => Err(AllocError),
         };
         match words {
             Ok(words) => Ok(words),
-            Err(_) => Err(self.print_fault(rt, "no memory", FAULT)),
+            Err(_) => {
+                let status = self.print_fault(rt, "no memory", FAULT);
+                Err(EarlyExit { status })
+            }
         }
     }
 

@@ -192,7 +192,7 @@ fn serve_with<'a, R: Net + time::Clock + AllocGlobal, M: Monitor<SocketWire>>(
 fn start(rt: &(impl Print + Eprint + Env + Files + Net + time::Clock + AllocGlobal)) -> u8 {
     let words = match PROGRAM.words(rt) {
         Ok(words) => words,
-        Err(status) => return status,
+        Err(exit) => return exit.status,
     };
     match directory_words(rt.alloc(), &words) {
         Ok(plan) => run(rt, &plan),

@@ -125,7 +125,7 @@ fn start(rt: &(impl Input + Print + Eprint + Env + Files + AllocGlobal)) -> u8
 {
     let words = match PROGRAM.words(rt) {
         Ok(words) => words,
-        Err(status) => return status,
+        Err(exit) => return exit.status,
     };
     match explain_words(rt.alloc(), &words) {
         Ok(plan) => run(rt, &plan),

@@ -50,7 +50,7 @@ fn run(
 fn start(rt: &(impl Input + Print + Eprint + Env + Files + Net + time::Clock + AllocGlobal)) -> u8 {
     let words = match PROGRAM.words(rt) {
         Ok(words) => words,
-        Err(status) => return status,
+        Err(exit) => return exit.status,
     };
     match server_words(rt.alloc(), &words) {
         Ok(mut plan) => run(rt, &mut plan),

@@ -133,7 +133,10 @@ def check_sleepers(checks, programs):
         peers = {place: stack.enter_context(server.connect()) for place in range(250)}
         for peer in peers.values():
             peer.sendall(HELLO)
-        checks.same("all are answered", {read_bytes(it, len(GREETED)) for it in peers.values()}, {GREETED})
+        are_answered = all(read_bytes(it, len(GREETED)) == GREETED for it in peers.values())
+        checks.same("all are answered", are_answered, True)
+        if not are_answered:
+            return
         shuffled = order.sample(sorted(peers.items()), len(peers))
         if not ask_each(checks, "each in turn", shuffled):
             return

@@ -8,7 +8,9 @@ abbrev pub AddsCalls : {A : Type 0} → Option (List A) → Option (List A) → 
 AddsCalls None new more = Unit {0}
 AddsCalls (Some before) new more = new ≡ Some (before ++ more)
 
--- A call of a door: `next` handed out this wire or none, or `wait` was called with these arguments.
+-- A call of a door: `next` handed out this wire or none, `wait` was called with these arguments, or `closed` took back
+-- this wire.
 pub data DoorCall (W : Type 0) : Type 0 where
   Requested : (handed : Option W) → DoorCall W
   Waited : (wait : Wait) (opens : Bool) → DoorCall W
+  Closed : (wire : W) → DoorCall W

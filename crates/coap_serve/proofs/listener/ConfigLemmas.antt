@@ -1,17 +1,20 @@
 -- The configuration of a server, which no part of a run changes, so the buffer for responses keeps its room. The calls
 -- of a run, each of which a script can make again.
 use Rattle.std.proofs.Common.{◌≡◌, ◌≤◌, ◌∙◌, ℕ, List, [], ◌∷◌, Option, Result, Ok, Err, OnErr, OnOk, ap, inl, inr, refl}
-use Rattle.std.proofs.Common.{arith, Bool, true, false, Some, None, is_none, nat_le, ◌==◌, ◌+◌, if◌then◌else◌}
+use Rattle.std.proofs.Common.{arith, true, false, Some, None, is_none, nat_le, ◌==◌, ◌+◌, if◌then◌else◌}
 use Rattle.coap_server_engine.proofs.values.RoomLemmas.{more_room, offered_config, partly_config, served_config}
 use Rattle.coap_model.specs.declared.answers.ReleaseFault.{ReleaseFault}
 use Rattle.coap_serve.specs.Prelude.{AcceptedCall, AreSteps, ConfigValues, Exchange, HasServed, History, ServerValue}
-use Rattle.coap_serve.specs.Prelude.{acted, released_refusal, silence_action, status_of, swept, swept_one}
-use Rattle.coap_serve.specs.Prelude.{AreGivenLater, HasResponseRoom, NothingGiven, OneMoreGiven, Peer, SilenceAction}
-use Rattle.coap_serve.specs.Prelude.{NoStep, OneMore, BytesTaken, BytesWritten, ConnectionDropped, InputEnded}
-use Rattle.coap_serve.specs.Prelude.{IsVisitStep, Message, FormatFault, Opened, Took, Wrote, Ticked, Ended, Released}
-use Rattle.coap_serve.specs.Prelude.{Responded, Dropped, responded_refusal, response_event, asking, offered_events}
-use Rattle.coap_serve.specs.Prelude.{served, IsRunCall, IsRunStep, LaterGiven, SilentDropped, SilentReleased, TimeSet}
-use Rattle.coap_serve.specs.Prelude.{TurnMade, moved_calls, ticked_calls, AreTakenWith, opening}
+use Rattle.coap_serve.specs.Prelude.{acted, released_refusal, silence_action, status_of, swept, swept_one, NothingGiven}
+use Rattle.coap_serve.specs.Prelude.{AreGivenLater, HasResponseRoom, OneMoreGiven, Peer, SilenceAction, NoStep, OneMore}
+use Rattle.coap_serve.specs.Prelude.{BytesTaken, BytesWritten, ConnectionDropped, InputEnded, IsVisitStep, Message}
+use Rattle.coap_serve.specs.Prelude.{FormatFault, Opened, Took, Wrote, Ticked, Ended, Released, Responded, Dropped}
+use Rattle.coap_serve.specs.Prelude.{responded_refusal, response_event, asking, offered_events, served, IsRunCall}
+use Rattle.coap_serve.specs.Prelude.{IsRunStep, LaterGiven, SilentDropped, SilentReleased, TimeSet, TurnMade, NotOpened}
+use Rattle.coap_serve.specs.Prelude.{moved_calls, ticked_calls, AreTakenWith, opening_events, AreTurnSteps, DoorWaited}
+use Rattle.coap_serve.specs.Prelude.{IsPartlyServed, VisitsMade, WireReturned, ask_result, keys_of}
+use Rattle.coap_server_engine.proofs.values.ServerLemmas.{keys_where_settled}
+use Rattle.coap_server_engine.proofs.values.ServingLemmas.{taken_keys}
 use Rattle.std.specs.Prelude.{All}
 use Rattle.std.proofs.lemmas.List.Elements.{All-append, All-cons, All-nil, All-push}
 use Rattle.coap_wire.specs.Reading.{message_of}
@@ -28,21 +31,43 @@ config_or_not r v after next same ok err = grind arith
 
 -- ---- connections that are served
 
-visit_config : {v after : ServerValue} {h : History} → IsVisitStep v after h → after.config ≡ v.config
+visit_config : {W : Type 0} {v after : ServerValue} {h : History W} → IsVisitStep v after h → after.config ≡ v.config
 visit_config {v = v} (BytesTaken after h taken) = elim taken.how [
   | inl served ↦ ap (λ u. u.config) served.1.server ∙ served_config v taken.id taken.bytes served.1.responses
   | inr partly ↦ partly_config partly
 ]
 visit_config (InputEnded id) = refl
 visit_config (BytesWritten id n) = refl
-visit_config (ConnectionDropped id) = refl
+visit_config (ConnectionDropped id wire) = refl
 
-visits_config : {v after : ServerValue} {h : History} → AreSteps IsVisitStep v after h → after.config ≡ v.config
+visits_config : {W : Type 0} {v after : ServerValue} {h : History W} → AreSteps IsVisitStep v after h
+    → after.config ≡ v.config
 visits_config NoStep = refl
 visits_config (OneMore w after h more so_far step) = visit_config step ∙ visits_config so_far
 
-pub served_same : {Known : History → Type 0} {v after : ServerValue} → HasServed Known v after → after.config ≡ v.config
+pub served_same : {W : Type 0} {Known : History W → Type 0} {v after : ServerValue} → HasServed Known v after
+    → after.config ≡ v.config
 served_same made = visits_config made.made
+
+-- ---- the numbers of connections, which takes keep
+
+asked_keys : (v : ServerValue) (id : ℕ) (left response : List ℕ)
+    → keys_of (ask_result v id left response).server.sessions ≡ keys_of v.sessions
+asked_keys v id left response = grind (arith, taken_keys v id left, keys_where_settled)
+
+served_keys : (v : ServerValue) (id : ℕ) (bytes : List ℕ) (responses : List (List ℕ))
+    → keys_of (served v id bytes responses).fed.server.sessions ≡ keys_of v.sessions
+unfolding served
+served_keys v id bytes [] = refl
+served_keys v id bytes (response ∷ responses) =
+    asked_keys (served v id bytes responses).fed.server id _ response ∙ served_keys v id bytes responses
+
+pub partly_keys : {v after : ServerValue} {id : ℕ} {bytes : List ℕ} {reported : List AcceptedCall → Type 0}
+    {asks : List Exchange → Type 0} → IsPartlyServed v id bytes after reported asks
+    → keys_of after.sessions ≡ keys_of v.sessions
+partly_keys {v = v} {id = id} {bytes = bytes} so =
+    ap (λ u. keys_of u.sessions) so.refused.1 ∙ taken_keys (served v id bytes so.responses).fed.server id _
+    ∙ served_keys v id bytes so.responses
 
 -- ---- later responses
 
@@ -106,8 +131,8 @@ served_made v id bytes (response ∷ responses) =
     All-append IsRunCall (served v id bytes responses).events _ (served_made v id bytes responses)
     (All-cons IsRunCall (Took id _) _ tt (request_made _ id _ response _))
 
-taken_made : {v after : ServerValue} {h : History} → AreTakenWith v after h → All IsRunCall h.events
-taken_made {v} step = elim step.how [
+taken_made : {W : Type 0} {v after : ServerValue} {h : History W} → AreTakenWith v after h → All IsRunCall h.events
+taken_made {v = v} step = elim step.how [
   | inl whole ↦ rw whole.1.reports (served_made v step.id step.bytes whole.1.responses)
   | inr part ↦
       rw part.reports (All-push IsRunCall (served v step.id step.bytes part.responses).events _
@@ -116,24 +141,30 @@ taken_made {v} step = elim step.how [
 
 -- ---- steps
 
-all_made : {Step : ServerValue → ServerValue → History → Type 0}
-    → ((v after : ServerValue) (h : History) → Step v after h → All IsRunCall h.events)
-    → {v after : ServerValue} {h : History} → AreSteps Step v after h → All IsRunCall h.events
+all_made : {W : Type 0} {Step : ServerValue → ServerValue → History W → Type 0}
+    → ((v after : ServerValue) (h : History W) → Step v after h → All IsRunCall h.events)
+    → {v after : ServerValue} {h : History W} → AreSteps Step v after h → All IsRunCall h.events
 all_made each NoStep = All-nil IsRunCall
 all_made each (OneMore w after h more so_far step) =
     All-append IsRunCall h.events more.events (all_made each so_far) (each w after more step)
 
-visit_made : {v w : ServerValue} {h : History} → IsVisitStep v w h → All IsRunCall h.events
+visit_made : {W : Type 0} {v w : ServerValue} {h : History W} → IsVisitStep v w h → All IsRunCall h.events
 visit_made (BytesTaken after h step) = taken_made step
 visit_made (InputEnded id) = only (Ended id) tt
 visit_made (BytesWritten id n) = only (Wrote id n) tt
-visit_made (ConnectionDropped id) = only (Dropped id) tt
+visit_made (ConnectionDropped id wire) = only (Dropped id) tt
 
 -- ---- a turn
 
-opening_made : (v : ServerValue) (opens : Bool) → All IsRunCall (opening v opens)
-opening_made v true = only (Opened (v.ids + 1)) tt
-opening_made v false = All-nil IsRunCall
+opening_made : {W : Type 0} (v : ServerValue) (handed : Option W) → All IsRunCall (opening_events v handed)
+opening_made v None = All-nil IsRunCall
+opening_made v (Some wire) = only (Opened (v.ids + 1)) tt
+
+turn_made : {W : Type 0} {v w : ServerValue} {h : History W} → AreTurnSteps v w h → All IsRunCall h.events
+turn_made (NotOpened wire may) = All-nil IsRunCall
+turn_made {v = v} (VisitsMade handed after visits steps) =
+    All-append IsRunCall (opening_events v handed) visits.events (opening_made v handed)
+    (all_made (λ v w h step. visit_made step) steps)
 
 ticked_made : (v : ServerValue) (moment : ℕ) → All IsRunCall (ticked_calls v moment)
 ticked_made v moment =
@@ -151,14 +182,14 @@ moved_made v moment =
 
 -- ---- a run
 
-step_made : {v w : ServerValue} {h : History} → IsRunStep v w h → All IsRunCall h.events
+step_made : {W : Type 0} {v w : ServerValue} {h : History W} → IsRunStep v w h → All IsRunCall h.events
 step_made (SilentReleased id) = only (Released id) tt
-step_made (SilentDropped id) = only (Dropped id) tt
-step_made {v} (TimeSet moment) = moved_made v moment
-step_made (LaterGiven after h is_full requested) = rw requested.reports (later_made requested.given)
-step_made {v} (TurnMade after h turn) =
-    rw turn.all (All-append IsRunCall (opening v turn.opens) turn.visits.events (opening_made v turn.opens)
-    (all_made (λ v w h step. visit_made step) turn.steps))
+step_made (SilentDropped id wire) = only (Dropped id) tt
+step_made {v = v} (TimeSet moment) = moved_made v moment
+step_made (LaterGiven after h is_full requested uncalled) = rw requested.reports (later_made requested.given)
+step_made (TurnMade after h turn) = turn_made turn
+step_made (DoorWaited wait opens) = All-nil IsRunCall
+step_made (WireReturned wire) = All-nil IsRunCall
 
-pub run_made : {v w : ServerValue} {h : History} → AreSteps IsRunStep v w h → All IsRunCall h.events
+pub run_made : {W : Type 0} {v w : ServerValue} {h : History W} → AreSteps IsRunStep v w h → All IsRunCall h.events
 run_made steps = all_made (λ v w h step. step_made step) steps

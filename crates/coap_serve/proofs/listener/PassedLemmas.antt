@@ -119,7 +119,7 @@ module _ {v : ServerValue} {id : ℕ} {rest : List ℕ} (left : AreLeft v id res
   -- If nothing is accepted and nothing is queued, nothing changes.
   nothing_carried : (may_write : Bool) (wire : WireTrace) (after : VisitState) (outcome : PeerOutcome)
       (events : List AcceptedCall) → waiting_once may_write id v ≡ [] → is_over_in (work_of v id) ≡ false
-      → IsTakenAndWritten IsTakenAlone may_write id (visit_state v rest wire) after
+      → IsTakenAndWritten {W = Unit {0}} IsTakenAlone may_write id (visit_state v rest wire) after
       (record { outcome = outcome; history = calls_only events })
       → (after ≡ visit_state v rest wire) × (outcome ≡ Open) × (events ≡ refused_events id rest)
   nothing_carried may_write wire after outcome events unwritten on carried =
@@ -177,9 +177,9 @@ passed_over v id i rest ready lies settled idle =
       };
       always = λ wire after outcome events part.
           let laid : (part.received ≡ Later) × (part.bytes ≡ rest) × (part.between ≡ wire) = rw unread at part.laid in
-          let carried : IsTakenAndWritten IsTakenAlone ready.write id (visit_state v rest wire) after
+          let carried : IsTakenAndWritten {W = Unit {0}} IsTakenAlone ready.write id (visit_state v rest wire) after
           (record { outcome = outcome; history = part.later }) = rw (laid.0, laid.1, laid.2) at part.carried in
-          let all : calls_only events ≡ part.later =
+          let all : calls_only {W = Unit {0}} events ≡ part.later =
           part.history ∙ ap (λ got. record (part.later) { events = read_events id got ++ part.later.events }) laid.0 in
           nothing_carried left ready.write wire after outcome events unwritten on (rw (← all) at carried);
     }

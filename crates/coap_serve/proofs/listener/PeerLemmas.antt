@@ -1,17 +1,17 @@
 -- The steps of serving a connection, and a value written at an index of a map whose keys are numbers.
 use Rattle.std.proofs.Common.{ℕ, ◌≡◌, ◌≢◌, Bool, true, false, List, [], ◌∷◌, ◌++◌, length, Option, Some, None, IfSome}
-use Rattle.std.proofs.Common.{is_some, is_none, option_map, refl, ap, ◌∙◌, ◌||◌, ◌&&◌, ◌==◌, if◌then◌else◌, nat_lt}
-use Rattle.std.proofs.Common.{arith, ◌≤◌, take}
+use Rattle.std.proofs.Common.{is_some, is_none, option_map, refl, ap, ◌∙◌, ◌||◌, ◌&&◌, ◌==◌, if◌then◌else◌, nat_lt, ◌≤◌}
+use Rattle.std.proofs.Common.{arith, take}
 use Rattle.std.proofs.lemmas.Bool.{and_parts}
 use Rattle.coap_serve.specs.declared.door.peer.PeerOutcome.TheVariants.{Open}
 use Rattle.coap_server_session.specs.values.Sessions.{session_ready}
 use Rattle.coap_serve.specs.Prelude.{ConnectionWork, IsOutcomeFor, IsReasonFor, SessionValue, session_of, session_work}
 use Rattle.coap_serve.specs.Prelude.{waiting_at, waiting_in, AcceptedCall, ServerValue, WireTrace, Got, Failed, Later}
-use Rattle.coap_serve.specs.Prelude.{PeerOutcome, is_read_due, server_read, server_wrote, has_failed, peer_outcome}
+use Rattle.coap_serve.specs.Prelude.{PeerOutcome, is_read_due, server_read, server_wrote, has_failed, peer_outcome, Way}
 use Rattle.coap_serve.specs.Prelude.{is_over_in, work_of, waiting_once, IsLaidOut, IsOffered, Readiness, Answering}
 use Rattle.coap_serve.specs.Prelude.{AreCallsBetween, Continues, Following, HasAccepted, Over, calls_only, read_events}
-use Rattle.coap_serve.specs.Prelude.{journal, no_history, wrote_events, IsVisited, Peer, Way, visit, Reason, stop_of}
-use Rattle.coap_serve.specs.Prelude.{takes_messages, can_take_on, IsTakenInPart, activity_after, have_moved}
+use Rattle.coap_serve.specs.Prelude.{journal, no_history, wrote_events, IsVisited, Peer, visit, Reason, stop_of}
+use Rattle.coap_serve.specs.Prelude.{DoorCall, takes_messages, can_take_on, IsTakenInPart, activity_after, have_moved}
 use Rattle.coap_serve.specs.Prelude.{has_written, IsNextPart, written_refusal, is_there, WrittenFault}
 use Rattle.coap_io.specs.streams.Wires.{MatchesTrace}
 use Rattle.std.proofs.lemmas.List.{append-nil, length-take-le, take-take}
@@ -46,26 +46,24 @@ all_moved id received wrote takes n moved =
 pub steps_are_a_part : {W : Type 0} {S : Way W} (ready : Readiness) {v after : ServerValue} {e : ℕ × Peer W} {p : Peer
     W}
     {agrees_after taken : ServerValue} {bytes : List ℕ} {between : WireTrace} (received : Got) {wrote : Got}
-    {outcome : PeerOutcome} {a b c d : Following} {x y : Answering} {n : ℕ}
+    {outcome : PeerOutcome} {a b c d : Following} {x y : Answering} {n : ℕ} {z : Option (List (DoorCall W))}
     → MatchesTrace (S.views.readable e.1.wire) ready.read → MatchesTrace (S.views.writable e.1.wire) ready.write
     → agrees_after ≡ server_read v e.0 received
     → IsLaidOut (is_read_due ready.read v e.0 e.1.rest) e.1.rest (S.views.trace e.1.wire) received bytes between
     → has_failed received ≡ false → HasAccepted
     (λ h. IsTakenInPart S.takes agrees_after e.0 bytes p.rest (record { server = taken; count = n; history = h }))
-    (Continues (journal b x) (journal c y)) agrees_after taken
+    (Continues (journal b x z) (journal c y z)) agrees_after taken
     → IsOffered (waiting_once ready.write e.0 taken) between wrote (S.views.trace p.wire)
     → after ≡ server_wrote taken e.0 wrote → outcome ≡ peer_outcome wrote (is_over_in (work_of after e.0))
     → AreCallsBetween a b v agrees_after (read_events e.0 received)
     → AreCallsBetween c d taken after (wrote_events e.0 wrote)
     → p.activity ≡ activity_after S.second (nat_lt 0 n || has_written wrote) e.1.activity
-    → HasAccepted (λ h. IsVisited S v e (visit after p outcome h)) (Continues (journal a x) (journal d y)) v after
-steps_are_a_part ready {e = e} {taken = taken} {bytes = bytes} {between = between} received {wrote = wrote} {x = x}
-    {y = y} {n = n} may_read may_write received_so laid works part offered wrote_so outcome_so read_made wrote_made
-    times = record {
-      history = record {
-        events = read_events e.0 received ++ (part.history.events ++ wrote_events e.0 wrote);
-        exchanges = part.history.exchanges;
-      };
+    → HasAccepted (λ h. IsVisited S v e (visit after p outcome h)) (Continues (journal a x z) (journal d y z)) v after
+steps_are_a_part ready {e = e} {taken = taken} {bytes = bytes} {between = between} received {wrote = wrote} {n = n}
+    may_read may_write received_so laid works part offered wrote_so outcome_so read_made wrote_made times =
+    let later = record (part.history) { events = part.history.events ++ wrote_events e.0 wrote } in
+    record {
+      history = record later { events = read_events e.0 received ++ later.events };
       made = record {
         ready = ready;
         read = may_read;
@@ -75,7 +73,7 @@ steps_are_a_part ready {e = e} {taken = taken} {bytes = bytes} {between = betwee
           bytes = bytes;
           between = between;
           laid = laid;
-          later = record { events = part.history.events ++ wrote_events e.0 wrote; exchanges = part.history.exchanges };
+          later = later;
           carried = rw works (record {
             taken = record { server = taken; count = n; history = part.history };
             took = rw (← received_so) part.made.took;
@@ -91,20 +89,21 @@ steps_are_a_part ready {e = e} {taken = taken} {bytes = bytes} {between = betwee
         activity = rw (all_moved e.0 received wrote part.history.events n part.made.moved) times;
       };
       accepted =
-          accepted_then (calls_accepted x read_made)
-          (rw (append-nil part.history.exchanges) at (accepted_then part.accepted (calls_accepted y wrote_made)));
+          accepted_then (calls_accepted read_made)
+          (rw (append-nil part.history.exchanges, append-nil part.history.calls) at
+          (accepted_then part.accepted (calls_accepted wrote_made)));
     }
 
 -- A read that failed.
 pub failed_read_is_a_part : {W : Type 0} {S : Way W} (ready : Readiness) {v after : ServerValue} {e : ℕ × Peer W}
-    {p : Peer W} (bytes : List ℕ) (received : Got) {a b : Following} {x : Answering}
+    {p : Peer W} (bytes : List ℕ) (received : Got) {a b : Following} {x : Answering} {z : Option (List (DoorCall W))}
     → MatchesTrace (S.views.readable e.1.wire) ready.read → MatchesTrace (S.views.writable e.1.wire) ready.write
     → after ≡ server_read v e.0 received → IsLaidOut (is_read_due ready.read v e.0 e.1.rest) e.1.rest
     (S.views.trace e.1.wire) received bytes (S.views.trace p.wire)
     → has_failed received ≡ true → AreCallsBetween a b v after (read_events e.0 received)
     → p.activity ≡ e.1.activity → HasAccepted (λ h. IsVisited S v e (visit after p (Over drop.Failed) h))
-    (Continues (journal a x) (journal b x)) v after
-failed_read_is_a_part ready {e = e} bytes got {x = x} may_read may_write received_so laid fails made same = record {
+    (Continues (journal a x z) (journal b x z)) v after
+failed_read_is_a_part ready {e = e} bytes got may_read may_write received_so laid fails made same = record {
   history = calls_only (read_events e.0 got ++ []);
   made = record {
     ready = ready;
@@ -121,7 +120,7 @@ failed_read_is_a_part ready {e = e} bytes got {x = x} may_read may_write receive
     };
     activity = rw (all_moved e.0 got Later [] 0 refl) same;
   };
-  accepted = rw append-nil (calls_accepted x made);
+  accepted = rw append-nil (calls_accepted made);
 }
 
 -- ---- the reason of a drop

@@ -6,19 +6,20 @@ use Rattle.std.proofs.Common.{subst, zero, suc, nat_eq, if◌then◌else◌, map
 use Rattle.std.proofs.Common.{is_some}
 use Rattle.std.proofs.lemmas.List.{append-nil, drop_all, take_all}
 use Rattle.std.proofs.lemmas.Option.{slice_get-map, slice_get_within, slice_get_cases, get_or_from_slice_get}
-use Rattle.coap_serve.specs.Prelude.{AreServed, CanGoOn, Continues, HasAccepted, HasGoneOn, History, IsAccepted}
-use Rattle.coap_serve.specs.Prelude.{IsVisited, Journal, LoopState, NoMore, Over, Peer, PeerOutcome, ServerValue}
-use Rattle.coap_serve.specs.Prelude.{Skipped, Visited, Way, history_left, history_then, keys_of, loop_state, no_history}
-use Rattle.coap_serve.specs.Prelude.{one_drop, server_dropped, set_value_at, status_of_peer, visit, DropReason}
-use Rattle.coap_serve.specs.Prelude.{IsReasonFor, work_of, SilenceAction, Released, ArePaired, one_call}
-use Rattle.coap_serve.specs.Prelude.{server_released, released_refusal, status_of, released_at, unswept, silence_action}
-use Rattle.coap_serve.specs.Prelude.{acted, drop_one, due_sweep, Sweep, swept, swept_one, HasSwept, HasSweptAt}
+use Rattle.coap_serve.specs.Prelude.{AreServed, CanGoOn, Continues, HasAccepted, HasGoneOn, History, IsAccepted, NoMore}
+use Rattle.coap_serve.specs.Prelude.{IsVisited, Journal, LoopState, Over, Peer, PeerOutcome, ServerValue, Skipped, Way}
+use Rattle.coap_serve.specs.Prelude.{Visited, history_then, keys_of, loop_state, no_history, AddsCalls}
+use Rattle.coap_serve.specs.Prelude.{Answering, DoorCall, Following, LiesAt, journal, one_drop, set_value_at}
+use Rattle.coap_serve.specs.Prelude.{status_of_peer}
+use Rattle.coap_serve.specs.Prelude.{visit, DropReason, IsReasonFor, work_of, SilenceAction, Released, ArePaired, acted}
+use Rattle.coap_serve.specs.Prelude.{one_call, server_released, released_refusal, status_of, released_at, unswept}
+use Rattle.coap_serve.specs.Prelude.{silence_action, drop_one, due_sweep, Sweep, swept, swept_one, HasSwept, HasSweptAt}
 use Rattle.coap_serve.specs.Prelude.{ReleaseFault, IsDistinct, released_on}
 use Rattle.coap_serve.specs.declared.door.peer.PeerOutcome.TheVariants.{Open}
 use Rattle.coap_serve.proofs.listener.EntryLemmas.{back_removed, back_written, beside_written, carried_on, front_kept}
-use Rattle.coap_serve.proofs.listener.EntryLemmas.{front_stays, front_written, next_first, set_there, some_at_index}
+use Rattle.coap_serve.proofs.listener.EntryLemmas.{front_stays, front_written, next_first, some_at_index}
 use Rattle.coap_serve.proofs.listener.EntryLemmas.{length_written}
-use Rattle.coap_serve.proofs.listener.ServingLemmas.{accepted_then, then_none, accepted_none}
+use Rattle.coap_serve.proofs.listener.ServingLemmas.{accepted_none, accepted_then, swept_called, then_assoc, then_none}
 use Rattle.std.proofs.lemmas.Bool.Decides.{nat_tests}
 use Rattle.coap_server_engine.specs.declared.monitor.DropReason.TheVariants as drop
 use Rattle.coap_serve.specs.listener.Silence.{release_one}
@@ -26,21 +27,23 @@ use Rattle.coap_serve.proofs.listener.SleepLemmas.{paired_written}
 use Rattle.std.proofs.lemmas.Bool.{eq-eqb, eqb-true}
 use Rattle.std.proofs.lemmas.Cmp.{nat_eq_equiv}
 use Rattle.std.proofs.lemmas.Map.{NonePasses, lookup-none}
-use Rattle.std.proofs.lemmas.Map.Entries.{none_past_head, lookup_from_place}
+use Rattle.std.proofs.lemmas.Map.Entries.{none_past_head, lookup_from_place, length-keys_of}
+use Rattle.std.specs.List.{position_or_len}
+use Rattle.std.specs.Map.{lookup}
 use Rattle.std.proofs.lemmas.List.Quantifiers.{position-Some}
 
 module _ {W : Type 0} (S : Way W) where
   -- ---- one after the other
 
   -- The progress of a turn: the connections before an index were served or skipped. If the others are too, all are.
-  pub record AreServedTo (start now : LoopState W) (at : ℕ) (h : History) : Type 0 where
-    pub rest : (w : LoopState W) (k : History) → AreServed S (loop_state now.server (drop at now.entries)) w k
+  pub record AreServedTo (start now : LoopState W) (at : ℕ) (h : History W) : Type 0 where
+    pub rest : (w : LoopState W) (k : History W) → AreServed S (loop_state now.server (drop at now.entries)) w k
         → AreServed S start (loop_state w.server (take at now.entries ++ w.entries)) (history_then h k)
 
   pub none_served : {start : LoopState W} → AreServedTo start start 0 no_history
   none_served = record { rest = λ w k served. served }
 
-  one_skipped : {start now : LoopState W} (at : ℕ) {h : History} {e : ℕ × Peer W} → slice_get now.entries at ≡ Some e
+  one_skipped : {start now : LoopState W} (at : ℕ) {h : History W} {e : ℕ × Peer W} → slice_get now.entries at ≡ Some e
       → CanGoOn (status_of_peer S now.server e) false → AreServedTo start now at h → AreServedTo start now (at + 1) h
   one_skipped {start = start} {now = now} at {h = h} {e = e} there calm so_far = record {
     rest = λ w k served.
@@ -50,7 +53,7 @@ module _ {W : Type 0} (S : Way W) where
   }
 
   -- The connections up to another index were skipped.
-  pub skipped_to : {start now : LoopState W} (at to : ℕ) {h : History} → at ≤ to → to ≤ length now.entries
+  pub skipped_to : {start now : LoopState W} (at to : ℕ) {h : History W} → at ≤ to → to ≤ length now.entries
       → ((i : ℕ) → at ≤ i → i < to → IfSome (slice_get now.entries i) (λ e. CanGoOn (status_of_peer S now.server e)
       false)) → AreServedTo start now at h → AreServedTo start now to h
   skipped_to {start = start} {now = now} at to {h = h} order within calm so_far =
@@ -59,37 +62,26 @@ module _ {W : Type 0} (S : Way W) where
       (let there = some_at_index now.entries i (omega (arith, below, within)) in
       one_skipped i there.1 (rw there.1 at (calm i after below)) before))
 
-  pub one_served : {start s after : LoopState W} {i at : ℕ} {h k : History} → HasGoneOn S s i after at k → AreServedTo
+  pub one_served : {start s after : LoopState W} {i at : ℕ} {h k : History W} → HasGoneOn S s i after at k → AreServedTo
       start s i h → AreServedTo start after at (history_then h k)
   one_served {s = s} {after = after} {i = i} {h = h} {k = k} gone so_far = record {
     rest = λ w l served.
-        rw (
-          gone.front,
-          append_assoc (take i s.entries) gone.its w.entries,
-          append_assoc h.events k.events l.events,
-          append_assoc h.exchanges k.exchanges l.exchanges,
-        )
+        rw (gone.front, append_assoc (take i s.entries) gone.its w.entries, then_assoc h k l)
         (so_far.rest (loop_state w.server (gone.its ++ w.entries)) (history_then k l)
         (rw (next_first s.entries i gone.there) (Visited s.server gone.e (drop (i + 1) s.entries)
         (loop_state after.server gone.its) k w l gone.can gone.part (rw gone.back at served))));
   }
 
-  pub all_are_served : {start now : LoopState W} {at : ℕ} {h : History} → length now.entries ≤ at → AreServedTo start
+  pub all_are_served : {start now : LoopState W} {at : ℕ} {h : History W} → length now.entries ≤ at → AreServedTo start
       now at h → AreServed S start now h
   all_are_served {start = start} {now = now} {at = at} {h = h} most so_far =
       let all = so_far.rest (loop_state now.server []) no_history (rw (drop_all at now.entries most)
       (NoMore now.server)) in
-      rw (append-nil (take at now.entries), take_all at now.entries most, append-nil h.events, append-nil h.exchanges)
-      at all
+      rw (append-nil (take at now.entries), take_all at now.entries most, then_none {h = h}) at all
 
   -- ---- one connection
 
-  -- The history of the visit, and of what follows it.
-  left_then : {outcome left : PeerOutcome} (h : History) (id : ℕ) → outcome ≡ left
-      → history_then h (history_left left id) ≡ history_then h (history_left outcome id)
-  left_then h id is = rw is refl
-
-  module _ {v between : ServerValue} {es : List (ℕ × Peer W)} {i id : ℕ} {was p : Peer W} {a b : Journal}
+  module _ {v between : ServerValue} {es : List (ℕ × Peer W)} {i id : ℕ} {was p : Peer W} {a b : Journal W}
       {outcome : PeerOutcome} (there : slice_get es i ≡ Some (id, was))
       (ready : IfSome (slice_get es i) (λ e. CanGoOn (status_of_peer S v e) true))
       (part : HasAccepted (λ h. IsVisited S v (id, was) (visit between p outcome h)) (Continues a b) v between) where
@@ -107,7 +99,7 @@ module _ {W : Type 0} (S : Way W) where
           part = part.made;
           server = rw open_now refl;
           far_end = rw open_now refl;
-          all = sym then_none ∙ left_then part.history id open_now;
+          all = rw open_now (sym then_none);
         };
         front = front_written es i id was p there;
         back = back_written es i p;
@@ -115,18 +107,13 @@ module _ {W : Type 0} (S : Way W) where
       accepted = part.accepted;
     }
 
-    pub one_over : {c : Journal} {after : ServerValue} {now : List (ℕ × Peer W)} {reason : DropReason}
+    pub one_over : {c : Journal W} {after : ServerValue} {now : List (ℕ × Peer W)} {reason : DropReason}
         → outcome ≡ Over reason → now ≡ remove (set_value_at es i p) i
-        → IfSome (slice_get (keys_of (set_value_at es i p)) i) (λ id. after ≡ server_dropped between id)
-        → IfSome (slice_get (keys_of (set_value_at es i p)) i) (λ id. IsAccepted (Continues b c) between after
-        (one_drop id)) → HasAccepted (HasGoneOn S (loop_state v es) i (loop_state after now) i) (Continues a c) v after
-    one_over {c = c} {after = after} over removed dropped accepted =
-        let now_there = set_there es i p id was there in
-        let left : after ≡ server_dropped between id = rw (slice_get-map, now_there) at dropped in
-        let last : IsAccepted (Continues b c) between after (one_drop id) =
-        rw (slice_get-map, now_there) at accepted in
+        → HasSwept (Continues b c) (drop_one between (id, p)) between after
+        → HasAccepted (HasGoneOn S (loop_state v es) i (loop_state after now) i) (Continues a c) v after
+    one_over over removed dropped =
         record {
-          history = history_then part.history (one_drop id);
+          history = history_then part.history (one_drop id p.wire);
           made = record {
             e = (id, was);
             its = [];
@@ -135,14 +122,14 @@ module _ {W : Type 0} (S : Way W) where
             part = record {
               its = visit between p outcome part.history;
               part = part.made;
-              server = rw over left;
+              server = rw over dropped.server;
               far_end = rw over refl;
-              all = left_then part.history id over;
+              all = rw over refl;
             };
             front = rw (removed, beside_written es i p, append-nil) (front_stays es i (slice_get_within es i _ there));
             back = rw (removed, beside_written es i p) (back_removed es i (slice_get_within es i _ there));
           };
-          accepted = accepted_then part.accepted last;
+          accepted = accepted_then part.accepted dropped.accepted;
         }
 
 -- ---- the effect of a sweep, connection by connection
@@ -162,19 +149,19 @@ pub silent_reason : {W : Type 0} (v : ServerValue) (es : List (ℕ × Peer W)) (
     (λ e. IfSome (work_of v e.0) (IsReasonFor drop.Silent))
 silent_reason v es i = grind arith
 
-pub dropped_here : {W : Type 0} (Known : History → Type 0) (v after : ServerValue) (es left : List (ℕ × Peer W)) (i : ℕ)
-    → i < length es → IfSome (slice_get (keys_of es) i) (λ id. after ≡ server_dropped v id) → left ≡ remove es i
-    → IfSome (slice_get (keys_of es) i) (λ id. IsAccepted Known v after (one_drop id)) → IfSome (slice_get es i)
-    (λ e. HasSweptAt Known (drop_one v e) (loop_state v es) i (loop_state after left) i)
-dropped_here Known v after es left i within dropped is accepted =
+pub dropped_here : {W : Type 0} (Known : History W → Type 0) (v after : ServerValue) (es left : List (ℕ × Peer W))
+    (i : ℕ) → i < length es → left ≡ remove es i
+    → IfSome (slice_get es i) (λ e. HasSwept Known (drop_one v e) v after)
+    → IfSome (slice_get es i) (λ e. HasSweptAt Known (drop_one v e) (loop_state v es) i (loop_state after left) i)
+dropped_here Known v after es left i within is dropped =
     let at = some_at_index es i within in
     rw at.1 (record {
-      has = record { server = rw (slice_get-map, at.1) at dropped; accepted = rw (slice_get-map, at.1) at accepted };
+      has = rw at.1 at dropped;
       front = rw (is, append-nil) (front_stays es i within);
       back = rw is (back_removed es i within);
     })
 
-pub released_here : {W : Type 0} {Known : History → Type 0} (now : ℕ) {v after : ServerValue}
+pub released_here : {W : Type 0} {Known : History W → Type 0} (now : ℕ) {v after : ServerValue}
     {es left : List (ℕ × Peer W)} (i : ℕ) {e : ℕ × Peer W} → slice_get es i ≡ Some e → after ≡ server_released v e.0
     → left ≡ set_value_at es i (released_at now e.1) → IsAccepted Known v after (one_call (Released e.0))
     → HasSweptAt Known (release_one now v e) (loop_state v es) i (loop_state after left) (i + 1)
@@ -185,7 +172,7 @@ released_here now {es = es} i {e = e} there released is accepted = record {
 }
 
 -- The connection stays.
-pub kept_here : {W : Type 0} {a : Journal} {s : LoopState W} {i : ℕ} {e : ℕ × Peer W} → slice_get s.entries i ≡ Some e
+pub kept_here : {W : Type 0} {a : Journal W} {s : LoopState W} {i : ℕ} {e : ℕ × Peer W} → slice_get s.entries i ≡ Some e
     → HasSweptAt (Continues a a) (unswept s.server (e ∷ [])) s i s (i + 1)
 kept_here {a = a} {s = s} {i = i} {e = e} there = record {
   has = record { server = refl; accepted = accepted_none a s.server s.server refl };
@@ -194,7 +181,7 @@ kept_here {a = a} {s = s} {i = i} {e = e} there = record {
 }
 
 -- The action is that of the rule, and `release` has this result.
-pub acted_here : {W : Type 0} {Known : History → Type 0} (idle now : ℕ) {s after : LoopState W} {i next : ℕ}
+pub acted_here : {W : Type 0} {Known : History W → Type 0} (idle now : ℕ) {s after : LoopState W} {i next : ℕ}
     {e : ℕ × Peer W} (action : SilenceAction) {refusal : Option ReleaseFault}
     → slice_get s.entries i ≡ Some e → action ≡ silence_action idle now (status_of s.server e.0) e.1.activity
     → refusal ≡ released_refusal s.server e.0 → HasSweptAt Known (acted action refusal now s.server e) s i after next
@@ -213,15 +200,15 @@ paired_released now i {es = es} keys within is paired = let at = some_at_index e
 
 -- The part of a sweep with the effect `s` that was made: `front` are the entries that were visited, and `rest` those
 -- still to visit.
-pub record IsSweptTo {W : Type 0} (Known : History → Type 0) (s : Sweep W) (idle now : ℕ) (u v : ServerValue)
+pub record IsSweptTo {W : Type 0} (Known : History W → Type 0) (s : Sweep W) (idle now : ℕ) (u v : ServerValue)
     (front rest : List (ℕ × Peer W)) : Type 0 where
-  pub history : History
+  pub history : History W
   pub accepted : IsAccepted Known u v history
   pub server : (swept idle now v rest).server ≡ s.server
   pub entries : front ++ (swept idle now v rest).entries ≡ s.entries
   pub made : history_then history (swept idle now v rest).history ≡ s.history
 
-pub none_swept : {W : Type 0} (a : Journal) {idle now : ℕ} {v : ServerValue} (es : List (ℕ × Peer W))
+pub none_swept : {W : Type 0} (a : Journal W) {idle now : ℕ} {v : ServerValue} (es : List (ℕ × Peer W))
     → IsSweptTo (Continues a a) (swept idle now v es) idle now v v (take 0 es) (drop 0 es)
 none_swept a {v = v} es = record {
   history = no_history;
@@ -231,26 +218,30 @@ none_swept a {v = v} es = record {
   made = refl;
 }
 
-pub one_more_swept : {W : Type 0} {a b c : Journal} {s : Sweep W} (idle now : ℕ) {u v w : ServerValue} (es left : List
-    (ℕ × Peer W)) (i at : ℕ) → i < length es
-    → IsSweptTo (Continues a b) s idle now u v (take i es) (drop i es) → IfSome (slice_get es i) (λ e. HasSweptAt
-    (Continues b c) (swept_one idle now v e) (loop_state v es) i (loop_state w left) at)
-    → IsSweptTo (Continues a c) s idle now u w (take at left) (drop at left)
+pub one_more_swept : {W : Type 0} {a : Journal W} {m n : Following} {p q : Answering} {d e : Option (List (DoorCall W))}
+    (calls : List (DoorCall W)) {s : Sweep W} (idle now : ℕ) {u v w : ServerValue} (es left : List (ℕ × Peer W))
+    (i at : ℕ) → i < length es
+    → IsSweptTo (Continues a (journal m p d)) s idle now u v (take i es) (drop i es) → IfSome (slice_get es i)
+    (λ x. HasSweptAt (Continues (journal m p (Some [])) (journal n q (Some calls))) (swept_one idle now v x)
+    (loop_state v es) i (loop_state w left) at) → AddsCalls d e calls
+    → IsSweptTo (Continues a (journal n q e)) s idle now u w (take at left) (drop at left)
 unfolding swept
-one_more_swept {b = b} {c = c} idle now {v = v} {w = w} es left i at within so_far part =
+one_more_swept {m = m} {n = n} {p = p} {q = q} calls idle now {v = v} {w = w} es left i at within so_far part
+    called =
     let there = some_at_index es i within in
-    let one : HasSweptAt (Continues b c) (swept_one idle now v there.0) (loop_state v es) i (loop_state w left) at = rw
-    there.1 at part in
+    let one : HasSweptAt (Continues (journal m p (Some [])) (journal n q (Some calls))) (swept_one idle now v there.0)
+    (loop_state v es) i (loop_state w left) at = rw there.1 at part in
+    let has = swept_called called one.has in
     let before = rw (next_first es i there.1) at so_far in
     rw (one.front, one.back, one.has.server) (record {
       history = history_then before.history (swept_one idle now v there.0).history;
-      accepted = accepted_then before.accepted (rw one.has.server at one.has.accepted);
+      accepted = accepted_then before.accepted (rw one.has.server at has.accepted);
       server = before.server;
       entries = rw append_assoc before.entries;
-      made = rw (append_assoc, append_assoc) before.made;
+      made = rw then_assoc before.made;
     })
 
-pub all_swept : {W : Type 0} {Known : History → Type 0} {s : Sweep W} {idle now : ℕ} {u v : ServerValue}
+pub all_swept : {W : Type 0} {Known : History W → Type 0} {s : Sweep W} {idle now : ℕ} {u v : ServerValue}
     (es : List (ℕ × Peer W)) (i : ℕ) → length es ≤ i → IsSweptTo Known s idle now u v (take i es) (drop i es)
     → HasSwept Known s u v × (es ≡ s.entries)
 unfolding swept
@@ -264,12 +255,12 @@ all_swept {Known = Known} {s = s} {u = u} {v = v} es i most so_far =
 
 -- ---- no sweep
 
-pub unswept_made : {W : Type 0} (a : Journal) {v : ServerValue} (es : List (ℕ × Peer W)) → HasSwept (Continues a a)
+pub unswept_made : {W : Type 0} (a : Journal W) {v : ServerValue} (es : List (ℕ × Peer W)) → HasSwept (Continues a a)
     (unswept v es) v v
 unswept_made a {v = v} es = record { server = refl; accepted = accepted_none a v v refl }
 
 -- The sweep of this second was made.
-pub made_before : {W : Type 0} (a : Journal) (idle : Option ℕ) {last second : ℕ} {v : ServerValue}
+pub made_before : {W : Type 0} (a : Journal W) (idle : Option ℕ) {last second : ℕ} {v : ServerValue}
     (es : List (ℕ × Peer W)) → second ≡ last → HasSwept (Continues a a) (due_sweep idle last second v es) v v
 made_before a None {v = v} es same = unswept_made a es
 made_before a (Some idle) {last = last} {second = second} {v = v} es same =
@@ -286,6 +277,24 @@ number_at {X} id es i k x there at =
     let key : get_or (keys_of es) i k ≡ k = get_or_from_slice_get (keys_of es) i k k (slice_get-map (λ (e : ℕ × X). e.0)
     es i ∙ ap (λ (o : Option (ℕ × X)). option_map (λ e. e.0) o) at) in
     sym (eqb-true id k (rw key at passes))
+
+-- A connection of the server has an entry.
+found_so : {X : Type 0} (id : ℕ) (es : List (ℕ × X)) → position_or_len (nat_eq id) (keys_of es) < length es
+    → lookup (nat_eq id) es ≡ None → ⊥
+found_so id [] within none = omega (arith, within)
+found_so id (e ∷ es) within none = grind (arith, nat_tests, found_so id es)
+
+pub found_there : {W : Type 0} {v : ServerValue} {es : List (ℕ × Peer W)} (id at : ℕ) → ArePaired v es
+    → LiesAt id at v.sessions → lookup (nat_eq id) es ≡ None → ⊥
+found_there {v = v} {es = es} id at paired lies none =
+    found_so id es (rw paired.keys (omega (
+      arith,
+      lies.index,
+      lies.within,
+      length-keys_of es,
+      length-keys_of v.sessions,
+      ap length paired.keys,
+    ))) none
 
 -- ---- one entry that is recorded anew
 

@@ -1,22 +1,25 @@
 -- The histories of the parts of a turn.
-use Rattle.std.proofs.Common.{ℕ, is_some, ◌≡◌, ◌≢◌, ◌+◌, ◌<◌, ◌||◌, not, nat_lt, true, false, List, [], ◌∷◌, ◌++◌}
-use Rattle.std.proofs.Common.{length, take, drop, Option, Some, None, IfSome, append_assoc, arith, option_map, refl}
-use Rattle.std.proofs.Common.{◌∙◌, inl, inr, ◌≤◌, ◌==◌, Bool, add-one}
+use Rattle.std.proofs.Common.{ℕ, is_some, ◌≡◌, ◌≢◌, ◌+◌, ◌<◌, ◌||◌, not, nat_lt, true, false, List, [], ◌∷◌, ◌++◌, take}
+use Rattle.std.proofs.Common.{length, drop, Option, Some, None, IfSome, append_assoc, arith, option_map, refl, ◌∙◌, inl}
+use Rattle.std.proofs.Common.{inr, ◌≤◌, ◌==◌, Bool, add-one, is_none}
 use Rattle.std.proofs.lemmas.Bool.{and_parts, ltb-true}
 use Rattle.std.proofs.lemmas.Bool.Decides.{nat_tests}
 use Rattle.std.proofs.lemmas.List.{append-nil, length-drop, length-take}
 use Rattle.std.proofs.Math.Bool.{or_assoc}
 use Rattle.coap_serve.specs.Prelude.{ShowsMore, FollowsMore, Following, opening, ServerValue, count_taken, server_taken}
-use Rattle.coap_serve.specs.Prelude.{ConnectionWork, IsReasonFor, SessionValue, session_work, AcceptedCall, Opened}
-use Rattle.coap_serve.specs.Prelude.{Took, Dropped, server_dropped, server_opened, Answering, AnswersMore, Exchange}
-use Rattle.coap_serve.specs.Prelude.{Gone, HasServed, HasTurned, HasOpened, AreSteps, IsTakenWith, opening_then}
-use Rattle.coap_serve.specs.Prelude.{AreCallsBetween, Continues, HasAccepted, History, IsAccepted, Journal, calls_only}
-use Rattle.coap_serve.specs.Prelude.{history_then, journal, no_history, one_drop, Got, Bytes, End, read_events}
-use Rattle.coap_serve.specs.Prelude.{is_there, server_read, server_wrote, wrote_events, Reason, handed_by, NoStep}
-use Rattle.coap_serve.specs.Prelude.{OneMore, IsTakenInPart, have_moved, kept_unless, moves, kept_rest, BytesTaken}
-use Rattle.coap_serve.specs.Prelude.{BytesWritten, ConnectionDropped, InputEnded, Message, DropReason, AreMade}
-use Rattle.coap_serve.specs.Prelude.{ask_result, asking, message_limit, offered_events, served, IsPartlyServed}
-use Rattle.coap_serve.specs.Prelude.{AreRequestedLater, IsRequestedLater, AreGivenLater, NothingGiven, OneMoreGiven}
+use Rattle.coap_serve.specs.Prelude.{ConnectionWork, IsReasonFor, SessionValue, session_work, AcceptedCall, Took, Got}
+use Rattle.coap_serve.specs.Prelude.{Answering, AnswersMore, Exchange, HasServed, HasTurned, AreSteps, IsTakenWith, End}
+use Rattle.coap_serve.specs.Prelude.{AddsCalls, DoorCall, door_only, AreCallsBetween, Continues, HasAccepted, History}
+use Rattle.coap_serve.specs.Prelude.{IsAccepted, Journal, calls_only, history_then, journal, no_history, one_drop, Peer}
+use Rattle.coap_serve.specs.Prelude.{Bytes, read_events, AreOpened, HasSwept, LoopState, NotOpened, Sweep, VisitsMade}
+use Rattle.coap_serve.specs.Prelude.{Closed, drop_one, opened_for, open_refusal, is_there, server_read, server_wrote}
+use Rattle.coap_serve.specs.Prelude.{wrote_events, Reason, handed_by, NoStep, OneMore, IsTakenInPart, have_moved, moves}
+use Rattle.coap_serve.specs.Prelude.{kept_unless, kept_rest, BytesTaken, BytesWritten, ConnectionDropped, InputEnded}
+use Rattle.coap_serve.specs.Prelude.{Message, DropReason, AreMade, ask_result, asking, message_limit, offered_events}
+use Rattle.coap_serve.specs.Prelude.{served, IsPartlyServed, AreRequestedLater, IsRequestedLater, AreGivenLater}
+use Rattle.coap_serve.specs.Prelude.{NothingGiven, OneMoreGiven}
+use Rattle.coap_io.specs.streams.DeviceTraces.{Requested}
+use Rattle.coap_io.proofs.streams.DeviceLemmas.{no_calls, calls_then}
 use Rattle.coap_server_engine.specs.values.ApplicationCalls.{IsServed as IsServedWith}
 use Rattle.coap_server_engine.proofs.scripting.ShownLemmas.{shows_same, shows_then}
 use Rattle.coap_server_engine.proofs.scripting.FollowLemmas.{followed_none, followed_then}
@@ -35,50 +38,88 @@ answered_then p q r xs ys one two earlier so_far =
 
 -- ---- histories one after another
 
-pub then_none : {h : History} → history_then h no_history ≡ h
-then_none = rw (append-nil, append-nil) refl
+pub then_none : {W : Type 0} {h : History W} → history_then h no_history ≡ h
+then_none = rw (append-nil, append-nil, append-nil) refl
 
-pub continued_none : (a : Journal) → Continues a a no_history
-continued_none a = record { calls = followed_none a.calls; exchanged = answered_none a.exchanges }
+pub then_assoc : {W : Type 0} (h k l : History W)
+    → history_then (history_then h k) l ≡ history_then h (history_then k l)
+then_assoc h k l = rw (append_assoc, append_assoc, append_assoc) refl
 
-pub continued_then : {a b c : Journal} (h more : History) → Continues a b h → Continues b c more
+pub continued_none : {W : Type 0} (a : Journal W) → Continues a a no_history
+continued_none a =
+    record { calls = followed_none a.calls; exchanged = answered_none a.exchanges; called = no_calls a.door }
+
+pub continued_then : {W : Type 0} {a b c : Journal W} (h more : History W) → Continues a b h → Continues b c more
     → Continues a c (history_then h more)
-continued_then {a} {b} {c} h more one two = record {
+continued_then {a = a} {b = b} {c = c} h more one two = record {
   calls = followed_then a.calls b.calls c.calls h.events more.events one.calls two.calls;
   exchanged = answered_then a.exchanges b.exchanges c.exchanges h.exchanges more.exchanges one.exchanged two.exchanged;
+  called = calls_then a.door b.door c.door h.calls more.calls one.called two.called;
 }
 
-pub accepted_none : (a : Journal) (v after : ServerValue) → after ≡ v → IsAccepted (Continues a a) v after no_history
+pub accepted_none : {W : Type 0} (a : Journal W) (v after : ServerValue) → after ≡ v
+    → IsAccepted (Continues a a) v after no_history
 accepted_none a v after is = record { shows = shows_same v after is; known = continued_none a }
 
-pub accepted_then : {a b c : Journal} {u v w : ServerValue} {h more : History} → IsAccepted (Continues a b) u v h
-    → IsAccepted (Continues b c) v w more → IsAccepted (Continues a c) u w (history_then h more)
+pub accepted_then : {W : Type 0} {a b c : Journal W} {u v w : ServerValue} {h more : History W}
+    → IsAccepted (Continues a b) u v h → IsAccepted (Continues b c) v w more
+    → IsAccepted (Continues a c) u w (history_then h more)
 accepted_then {u = u} {v = v} {w = w} {h = h} {more = more} one two = record {
   shows = shows_then u v w h.events more.events one.shows two.shows;
   known = continued_then h more one.known two.known;
 }
 
--- The application was not called.
-pub calls_accepted : {a b : Following} (p : Answering) {v after : ServerValue} {events : List AcceptedCall}
-    → AreCallsBetween a b v after events
-    → IsAccepted (Continues (journal a p) (journal b p)) v after (calls_only events)
-calls_accepted p made =
-    record { shows = made.shows; known = record { calls = made.follows; exchanged = answered_none p } }
+-- ---- calls of the server or the listener alone
+
+module _ {W : Type 0} {a b : Following} {p : Answering} {d : Option (List (DoorCall W))} where
+  pub calls_known : {events : List AcceptedCall} → FollowsMore a b events
+      → Continues (journal a p d) (journal b p d) (calls_only events)
+  calls_known follows = record { calls = follows; exchanged = answered_none p; called = no_calls d }
+
+  pub calls_accepted : {v after : ServerValue} {events : List AcceptedCall} → AreCallsBetween a b v after events
+      → IsAccepted (Continues (journal a p d) (journal b p d)) v after (calls_only events)
+  calls_accepted made = record { shows = made.shows; known = calls_known made.follows }
+
+pub door_known : {W : Type 0} {a : Following} {p : Answering} {d e : Option (List (DoorCall W))}
+    {calls : List (DoorCall W)} → AddsCalls d e calls → Continues (journal a p d) (journal a p e) (door_only calls)
+door_known {a = a} {p = p} called = record { calls = followed_none a; exchanged = answered_none p; called = called }
+
+module _ {W : Type 0} {a b : Following} {p q : Answering} {d e : Option (List (DoorCall W))} {calls : List (DoorCall W)}
+    (called : AddsCalls d e calls) where
+  -- The listener had the calls that it was to have.
+  accepted_called : {v after : ServerValue} {h : History W}
+      → IsAccepted (Continues (journal a p (Some [])) (journal b q (Some calls))) v after h
+      → IsAccepted (Continues (journal a p d) (journal b q e)) v after h
+  accepted_called {h = h} one =
+      let is : calls ≡ h.calls = cc one.known.called in
+      record {
+        shows = one.shows;
+        known = record { calls = one.known.calls; exchanged = one.known.exchanged; called = rw is at called };
+      }
+
+  pub made_called : {Made : History W → Type 0} {v after : ServerValue}
+      → HasAccepted Made (Continues (journal a p (Some [])) (journal b q (Some calls))) v after
+      → HasAccepted Made (Continues (journal a p d) (journal b q e)) v after
+  made_called one = record { history = one.history; made = one.made; accepted = accepted_called one.accepted }
+
+  pub swept_called : {s : Sweep W} {v after : ServerValue}
+      → HasSwept (Continues (journal a p (Some [])) (journal b q (Some calls))) s v after
+      → HasSwept (Continues (journal a p d) (journal b q e)) s v after
+  swept_called one = record { server = one.server; accepted = accepted_called one.accepted }
 
 -- ---- steps one after the other
 
-module _ {Step : ServerValue → ServerValue → History → Type 0} where
-  pub steps_then : {u v w : ServerValue} {h k : History} → AreSteps Step u v h → AreSteps Step v w k
+module _ {W : Type 0} {Step : ServerValue → ServerValue → History W → Type 0} where
+  pub steps_then : {u v w : ServerValue} {h k : History W} → AreSteps Step u v h → AreSteps Step v w k
       → AreSteps Step u w (history_then h k)
   steps_then one NoStep = rw then_none one
   steps_then {h = h} one (OneMore w after g more so_far step) =
-      rw (← append_assoc h.events g.events more.events, ← append_assoc h.exchanges g.exchanges more.exchanges)
-      (OneMore w after (history_then h g) more (steps_then one so_far) step)
+      rw (← then_assoc h g more) (OneMore w after (history_then h g) more (steps_then one so_far) step)
 
-  pub one_step : {v after : ServerValue} {h : History} → Step v after h → AreSteps Step v after h
+  pub one_step : {v after : ServerValue} {h : History W} → Step v after h → AreSteps Step v after h
   one_step {v = v} {after = after} {h = h} step = OneMore v after no_history h NoStep step
 
-  pub both_made : {a b c : Journal} {u v w : ServerValue} → HasAccepted (AreSteps Step u v) (Continues a b) u v
+  pub both_made : {a b c : Journal W} {u v w : ServerValue} → HasAccepted (AreSteps Step u v) (Continues a b) u v
       → HasAccepted (AreSteps Step v w) (Continues b c) v w → HasAccepted (AreSteps Step u w) (Continues a c) u w
   both_made one two = record {
     history = history_then one.history two.history;
@@ -86,27 +127,25 @@ module _ {Step : ServerValue → ServerValue → History → Type 0} where
     accepted = accepted_then one.accepted two.accepted;
   }
 
-  pub none_made : (a : Journal) {v after : ServerValue} → after ≡ v
+  pub none_made : (a : Journal W) {v after : ServerValue} → after ≡ v
       → HasAccepted (AreSteps Step v after) (Continues a a) v after
   none_made a {v = v} {after = after} is =
       record { history = no_history; made = rw is NoStep; accepted = accepted_none a v after is }
 
   -- Steps without an exchange.
-  pub calls_made : {a b : Following} {p : Answering} {v after : ServerValue} {events : List AcceptedCall}
-      → AreSteps Step v after (calls_only events) → AreCallsBetween a b v after events
-      → HasAccepted (AreSteps Step v after) (Continues (journal a p) (journal b p)) v after
-  calls_made {p = p} steps made = record { history = _; made = steps; accepted = calls_accepted p made }
+  pub calls_made : {a b : Following} {p : Answering} {d : Option (List (DoorCall W))} {v after : ServerValue}
+      {events : List AcceptedCall} → AreSteps Step v after (calls_only events) → AreCallsBetween a b v after events
+      → HasAccepted (AreSteps Step v after) (Continues (journal a p d) (journal b p d)) v after
+  calls_made steps made = record { history = _; made = steps; accepted = calls_accepted made }
 
 -- The connection was dropped.
-pub dropped_served : (a b : Following) (p q : Answering) (v : ServerValue) {after : ServerValue} (id : ℕ)
-    → after ≡ server_dropped v id → ShowsMore v after (Dropped id ∷ []) → FollowsMore a b (Dropped id ∷ [])
-    → AnswersMore p q (Gone id ∷ []) → HasServed (Continues (journal a p) (journal b q)) v after
-dropped_served a b p q v id is shows received gone =
-    record {
-      history = one_drop id;
-      made = rw is (one_step (ConnectionDropped id));
-      accepted = record { shows = shows; known = record { calls = received; exchanged = gone } };
-    }
+pub dropped_served : {W : Type 0} {Known : History W → Type 0} {v after : ServerValue} (e : ℕ × Peer W)
+    → HasSwept Known (drop_one v e) v after → HasServed Known v after
+dropped_served e one = record {
+  history = one_drop e.0 e.1.wire;
+  made = rw one.server (one_step (ConnectionDropped e.0 e.1.wire));
+  accepted = one.accepted;
+}
 
 -- ---- reads and writes
 
@@ -119,17 +158,17 @@ pub read_called : {a : Following} {v after : ServerValue} (id : ℕ) (got : Got)
 read_called id End apart is = absurd (apart refl)
 read_called {a = a} {v = v} {after = after} id got apart is = none_called is
 
-pub read_served : {a b : Following} {p : Answering} {v after : ServerValue} (id : ℕ) (got : Got)
-    → after ≡ server_read v id got → AreCallsBetween a b v after (read_events id got)
-    → HasServed (Continues (journal a p) (journal b p)) v after
-read_served id End is made = calls_made (rw is (one_step (InputEnded id))) made
-read_served id got is made = calls_made (rw is NoStep) made
+module _ {W : Type 0} {a b : Following} {p : Answering} {d : Option (List (DoorCall W))} {v after : ServerValue} where
+  pub read_served : (id : ℕ) (got : Got) → after ≡ server_read v id got
+      → AreCallsBetween a b v after (read_events id got) → HasServed (Continues (journal a p d) (journal b p d)) v after
+  read_served id End is made = calls_made (rw is (one_step (InputEnded id))) made
+  read_served id got is made = calls_made (rw is NoStep) made
 
-pub wrote_served : {a b : Following} {p : Answering} {v after : ServerValue} (id : ℕ) (wrote : Got)
-    → after ≡ server_wrote v id wrote → AreCallsBetween a b v after (wrote_events id wrote)
-    → HasServed (Continues (journal a p) (journal b p)) v after
-wrote_served id (Bytes n) is made = calls_made (rw is (one_step (BytesWritten id n))) made
-wrote_served id wrote is made = calls_made (rw is NoStep) made
+  pub wrote_served : (id : ℕ) (wrote : Got) → after ≡ server_wrote v id wrote
+      → AreCallsBetween a b v after (wrote_events id wrote)
+      → HasServed (Continues (journal a p d) (journal b p d)) v after
+  wrote_served id (Bytes n) is made = calls_made (rw is (one_step (BytesWritten id n))) made
+  wrote_served id wrote is made = calls_made (rw is NoStep) made
 
 -- ---- dropped connections
 
@@ -195,15 +234,18 @@ pub none_kept : (stop : Option Reason) {left : List ℕ} (rest : List ℕ) → i
 none_kept stop rest stopped is = grind arith
 
 -- The history of takes for an application.
-abbrev answered : ServerValue → ℕ → List ℕ → List (List ℕ) → History
-answered v id bytes responses =
-    record { events = (served v id bytes responses).events; exchanges = (served v id bytes responses).exchanges }
+abbrev answered : {W : Type 0} → ServerValue → ℕ → List ℕ → List (List ℕ) → History W
+answered v id bytes responses = record {
+  events = (served v id bytes responses).events;
+  exchanges = (served v id bytes responses).exchanges;
+  calls = [];
+}
 
 -- The same takes, whose history is known.
 served_so : {v after : ServerValue} {id count : ℕ} {bytes : List ℕ} {monitor : List AcceptedCall → Type 0}
     {asks told : List Exchange → Type 0} (part : IsServedWith v id bytes count after monitor asks)
-    → told (answered v id bytes part.responses).exchanges
-    → IsServedWith v id bytes count after (λ all. (answered v id bytes part.responses).events ≡ all) told
+    → told (served v id bytes part.responses).exchanges
+    → IsServedWith v id bytes count after (λ all. (served v id bytes part.responses).events ≡ all) told
 served_so part exchanged = record {
   responses = part.responses;
   made = part.made;
@@ -216,88 +258,115 @@ served_so part exchanged = record {
   exchanged = exchanged;
 }
 
-pub taken_in_part : {A : Type 0} (follows : A → Answering) (one other : A) (a b : Following) {v after : ServerValue}
-    (id count : ℕ) (bytes : List ℕ) {left : List ℕ}
+pub taken_in_part : {A W : Type 0} (follows : A → Answering) (one other : A) (a b : Following) {v after : ServerValue}
+    (id count : ℕ) (bytes : List ℕ) {left : List ℕ} {d : Option (List (DoorCall W))}
     → IsServedWith v id bytes count after (FollowsMore a b) (AnswersMore (follows one) (follows other))
     → left ≡ kept_rest after id count bytes → HasAccepted
     (λ h. IsTakenInPart (IsTakenWith follows) v id bytes left (record { server = after; count = count; history = h }))
-    (Continues (journal a (follows one)) (journal b (follows other))) v after
-taken_in_part follows one other a b {v = v} id count bytes part rest = record {
+    (Continues (journal a (follows one) d) (journal b (follows other) d)) v after
+taken_in_part follows one other a b {v = v} id count bytes {d = d} part rest = record {
   history = answered v id bytes part.responses;
   made = record {
-    took = served_so part (refl, one, other, part.exchanged);
+    took = (refl, served_so part (refl, one, other, part.exchanged));
     rest = rest;
     moved = rw part.counted (served_moved v id bytes part.responses part.made);
   };
-  accepted = record { shows = part.shows; known = record { calls = part.reports; exchanged = part.exchanged } };
+  accepted = record {
+    shows = part.shows;
+    known = record { calls = part.reports; exchanged = part.exchanged; called = no_calls d };
+  };
 }
 
-pub with_served : (a b : Following) (p q : Answering) (v after : ServerValue) (id count : ℕ) (bytes : List ℕ)
-    → IsServedWith v id bytes count after (FollowsMore a b) (AnswersMore p q)
-    → HasServed (Continues (journal a p) (journal b q)) v after
-with_served a b p q v after id count bytes part = record {
-  history = answered v id bytes part.responses;
-  made = one_step (BytesTaken after _ (record { id = id; bytes = bytes; how = inl (count, served_so part refl) }));
-  accepted = record { shows = part.shows; known = record { calls = part.reports; exchanged = part.exchanged } };
-}
+module _ {W : Type 0} {a b : Following} {p q : Answering} {d : Option (List (DoorCall W))} {v after : ServerValue} where
+  pub with_served : (id count : ℕ) (bytes : List ℕ)
+      → IsServedWith v id bytes count after (FollowsMore a b) (AnswersMore p q)
+      → HasServed (Continues (journal a p d) (journal b q d)) v after
+  with_served id count bytes part = record {
+    history = answered v id bytes part.responses;
+    made = one_step (BytesTaken after _ (record {
+      id = id;
+      bytes = bytes;
+      how = inl (count, served_so part refl);
+      uncalled = refl;
+    }));
+    accepted = record {
+      shows = part.shows;
+      known = record { calls = part.reports; exchanged = part.exchanged; called = no_calls d };
+    };
+  }
 
-pub with_part_served : (a b : Following) (p q : Answering) (v after : ServerValue) (id : ℕ) (bytes : List ℕ)
-    → IsPartlyServed v id bytes after (FollowsMore a b) (AnswersMore p q)
-    → HasServed (Continues (journal a p) (journal b q)) v after
-with_part_served a b p q v after id bytes part =
-    let so_far = served v id bytes part.responses in
-    record {
-      history = record {
-        events = so_far.events ++ Took id (take part.count (drop so_far.fed.count bytes)) ∷ [];
-        exchanges = so_far.exchanges;
-      };
-      made = one_step (BytesTaken after _ (record {
-        id = id;
-        bytes = bytes;
-        how = inr (record {
-          responses = part.responses;
-          made = part.made;
-          going = part.going;
-          count = part.count;
-          refused = part.refused;
+  pub with_part_served : (id : ℕ) (bytes : List ℕ) → IsPartlyServed v id bytes after (FollowsMore a b) (AnswersMore p q)
+      → HasServed (Continues (journal a p d) (journal b q d)) v after
+  with_part_served id bytes part =
+      let so_far = served v id bytes part.responses in
+      record {
+        history = record {
+          events = so_far.events ++ Took id (take part.count (drop so_far.fed.count bytes)) ∷ [];
+          exchanges = so_far.exchanges;
+          calls = [];
+        };
+        made = one_step (BytesTaken after _ (record {
+          id = id;
+          bytes = bytes;
+          how = inr (record {
+            responses = part.responses;
+            made = part.made;
+            going = part.going;
+            count = part.count;
+            refused = part.refused;
+            shows = part.shows;
+            reports = refl;
+            exchanged = refl;
+          });
+          uncalled = refl;
+        }));
+        accepted = record {
           shows = part.shows;
-          reports = refl;
-          exchanged = refl;
-        });
-      }));
-      accepted = record { shows = part.shows; known = record { calls = part.reports; exchanged = part.exchanged } };
-    }
+          known = record { calls = part.reports; exchanged = part.exchanged; called = no_calls d };
+        };
+      }
 
 -- ---- a turn
 
-pub none_opened : (a : Following) (v after : ServerValue) → after ≡ v → HasOpened a a v after
-none_opened a v after is = record { opens = false; server = is; calls = none_called is }
+module _ {W : Type 0} {a b : Following} {d e : Option (List (DoorCall W))} {v after : ServerValue} where
+  -- No application was called when a connection was opened.
+  pub opening_known : {p : Answering} (handed : Option W)
+      → IsAccepted (λ h. FollowsMore a b h.events × AddsCalls d e h.calls) v after (opening v handed)
+      → IsAccepted (Continues (journal a p d) (journal b p e)) v after (opening v handed)
+  opening_known {p = p} handed one = record {
+    shows = one.shows;
+    known = record { calls = one.known.0; exchanged = answered_none p; called = one.known.1 };
+  }
 
-pub opening_called : (a b : Following) (v : ServerValue) {after : ServerValue} (id : ℕ) → id ≡ v.ids + 1
-    → ShowsMore v after (Opened id ∷ []) → FollowsMore a b (Opened id ∷ [])
-    → AreCallsBetween a b v after (opening v true)
-opening_called a b v id is shows received = record { shows = rw is at shows; follows = rw is at received }
+  -- An allocation failed for a wire, and the listener got it back.
+  pub not_turned : {p : Answering} (wire : W) → after ≡ v → b ≡ a → is_none (open_refusal v) ≡ true
+      → AddsCalls d e (Requested (Some wire) ∷ Closed wire ∷ [])
+      → HasTurned (Continues (journal a p d) (journal b p e)) v after
+  not_turned wire is same may called = record {
+    history = door_only (Requested (Some wire) ∷ Closed wire ∷ []);
+    made = rw is (NotOpened wire may);
+    accepted = record { shows = shows_same v after is; known = rw same (door_known called) };
+  }
 
-pub one_opened : (a b : Following) (v after : ServerValue) (id : ℕ) → id ≡ v.ids + 1 → after ≡ server_opened v
-    → ShowsMore v after (Opened id ∷ []) → FollowsMore a b (Opened id ∷ []) → HasOpened a b v after
-one_opened a b v after id is opened shows received =
-    record { opens = true; server = opened; calls = opening_called a b v id is shows received }
+-- The listener was not asked, or had no wire.
+pub none_opened : {W : Type 0} (a : Following) (d e : Option (List (DoorCall W))) {v : ServerValue}
+    → AddsCalls d e (opening {W = W} v None).calls
+    → IsAccepted (λ h. FollowsMore a a h.events × AddsCalls d e h.calls) v v (opening v None)
+none_opened a d e {v = v} called = record { shows = shows_same v v refl; known = (followed_none a, called) }
 
-pub turned_further : {a b c : Following} {p q : Answering} {u v w : ServerValue} → HasOpened a b u v
-    → HasServed (Continues (journal b p) (journal c q)) v w → HasTurned (Continues (journal a p) (journal c q)) u w
-turned_further {p = p} {u = u} one two = record {
-  history = opening_then u one.opens two.history;
-  made = record { opens = one.opens; visits = two.history; steps = rw one.server at two.made; all = refl };
-  accepted = accepted_then (calls_accepted p one.calls) two.accepted;
-}
+opened_so : {W : Type 0} (second : ℕ) (handed : Option W) (s after : LoopState W) → AreOpened second handed s after
+    → after.server ≡ opened_for s.server handed
+opened_so second None s after opened = opened.0
+opened_so second (Some wire) s after opened = opened.server
 
--- A turn that was cut before a connection was served.
-pub turned_so_far : {a b : Following} {p : Answering} {v w : ServerValue} → HasOpened a b v w
-    → HasTurned (Continues (journal a p) (journal b p)) v w
-turned_so_far {p = p} {v = v} one = record {
-  history = opening_then v one.opens no_history;
-  made = record { opens = one.opens; visits = no_history; steps = rw one.server NoStep; all = refl };
-  accepted = rw append-nil (calls_accepted p one.calls);
+pub turned_further : {W : Type 0} {a b c : Journal W} (second : ℕ) (s between : LoopState W) {w : ServerValue}
+    (handed : Option W) → AreOpened second handed s between
+    → IsAccepted (Continues a b) s.server between.server (opening s.server handed)
+    → HasServed (Continues b c) between.server w → HasTurned (Continues a c) s.server w
+turned_further second s between {w = w} handed opened one two = record {
+  history = history_then (opening s.server handed) two.history;
+  made = VisitsMade handed w two.history (rw (opened_so second handed s between opened) at two.made);
+  accepted = accepted_then one two.accepted;
 }
 
 -- ---- later responses

@@ -10,6 +10,7 @@ use Rattle.coap_serve.specs.declared.door.silence.Activity.{Activity}
 use Rattle.coap_serve.specs.declared.door.silence.SilenceAction.{SilenceAction}
 use Rattle.coap_serve.specs.declared.door.silence.SilenceAction.TheVariants.{Keep, Release, Drop}
 use Rattle.coap_serve.specs.declared.door.peer.Peer.{Peer}
+use Rattle.coap_io.specs.streams.DeviceTraces.{Closed, DoorCall}
 use Rattle.coap_serve.specs.listener.Histories.{History, IsAccepted, history_then, no_history, one_call, one_drop}
 use Rattle.coap_serve.specs.listener.Serving.{LoopState}
 
@@ -41,7 +42,7 @@ silence_action idle now (Some s) a = action_for idle now s a a.released
 pub record Sweep (W : Type 0) : Type 0 where
   pub server : ServerValue
   pub entries : List (ℕ × Peer W)
-  pub history : History
+  pub history : History W
 
 -- No sweep was made.
 abbrev pub unswept : {W : Type 0} → ServerValue → List (ℕ × Peer W) → Sweep W
@@ -49,7 +50,12 @@ unswept v es = record { server = v; entries = es; history = no_history }
 
 -- A connection was dropped.
 abbrev pub drop_one : {W : Type 0} → ServerValue → ℕ × Peer W → Sweep W
-drop_one v e = record { server = server_dropped v e.0; entries = []; history = one_drop e.0 }
+drop_one v e = record { server = server_dropped v e.0; entries = []; history = one_drop e.0 e.1.wire }
+
+-- The call of a listener that gets back this wire, if there is one.
+abbrev pub given_back : {W : Type 0} → Option W → List (DoorCall W)
+given_back None = []
+given_back (Some wire) = Closed wire ∷ []
 
 -- The transport side of a connection that the server releases at this time.
 abbrev pub released_at : {W : Type 0} → (now : ℕ) → Peer W → Peer W
@@ -94,12 +100,12 @@ due_sweep None last second v es = unswept v es
 due_sweep (Some idle) last second v es = if second == last then unswept v es else swept idle second v es
 
 -- A sweep had this effect on the server. `Known` holds of its history.
-pub record HasSwept {W : Type 0} (Known : History → Type 0) (s : Sweep W) (v after : ServerValue) : Type 0 where
+pub record HasSwept {W : Type 0} (Known : History W → Type 0) (s : Sweep W) (v after : ServerValue) : Type 0 where
   pub server : after ≡ s.server
   pub accepted : IsAccepted Known v after s.history
 
 -- The connection at an index was swept, and the sweep continues at the index `at`. The others are unchanged.
-pub record HasSweptAt {W : Type 0} (Known : History → Type 0) (s : Sweep W) (before : LoopState W) (i : ℕ)
+pub record HasSweptAt {W : Type 0} (Known : History W → Type 0) (s : Sweep W) (before : LoopState W) (i : ℕ)
     (after : LoopState W) (at : ℕ) : Type 0 where
   pub has : HasSwept Known s before.server after.server
   pub front : take at after.entries ≡ take i before.entries ++ s.entries

@@ -100,27 +100,28 @@ activity_after second moved a = if moved then record a { moved = second } else a
 
 -- The result of passing received bytes to a connection: the server, the number of bytes that it accepted, and the
 -- history.
-pub record TakeResult : Type 0 where
+pub record TakeResult (W : Type 0) : Type 0 where
   pub server : ServerValue
   pub count : ℕ
-  pub history : History
+  pub history : History W
 
 -- The effect of received bytes on a connection: the server before, the number of the connection, the bytes, and the
 -- result.
-abbrev pub Taking : Type 1
-Taking = ServerValue → ℕ → List ℕ → TakeResult → Type 0
+abbrev pub Taking : Type 0 → Type 1
+Taking W = ServerValue → ℕ → List ℕ → TakeResult W → Type 0
 
 -- The connection accepts all that it accepts of the bytes, and no application responds.
-abbrev pub IsTakenAlone : Taking
+abbrev pub IsTakenAlone : {W : Type 0} → Taking W
 IsTakenAlone v id bytes r =
     (r.server ≡ (in_result v id bytes).server) × (r.count ≡ (in_result v id bytes).count)
     × (r.history ≡ calls_only (took v id bytes))
 
 -- The connection accepts all that it accepts of the bytes. An application with these statements is shown the requests
 -- that it answers, and responds to some of them at once.
-abbrev pub IsTakenWith : {A : Type 0} → (follows : A → Answering) → Taking
+abbrev pub IsTakenWith : {A W : Type 0} → (follows : A → Answering) → Taking W
 IsTakenWith {A} follows v id bytes r =
-    IsServedWith v id bytes r.count r.server (λ all. r.history.events ≡ all)
+    (r.history.calls ≡ [])
+    × IsServedWith v id bytes r.count r.server (λ all. r.history.events ≡ all)
     (λ all. (r.history.exchanges ≡ all) × (one other : A) × AnswersMore (follows one) (follows other) all)
 
 abbrev pub has_failed : Got → Bool
@@ -144,8 +145,8 @@ IsLaidOut true rest wire received bytes after = IsReadOnce READ_SIZE wire after 
 IsLaidOut false rest wire received bytes after = (received ≡ Later) × (bytes ≡ rest) × (after ≡ wire)
 
 -- The connection did with these bytes what `Takes` states, with this result, and these bytes are kept.
-pub record IsTakenInPart (Takes : Taking) (v : ServerValue) (id : ℕ) (bytes left : List ℕ)
-    (r : TakeResult) : Type 0 where
+pub record IsTakenInPart {W : Type 0} (Takes : Taking W) (v : ServerValue) (id : ℕ) (bytes left : List ℕ)
+    (r : TakeResult W) : Type 0 where
   pub took : Takes v id bytes r
   pub rest : left ≡ kept_rest r.server id r.count bytes
   pub moved : have_moved r.history.events ≡ nat_lt 0 r.count
@@ -173,15 +174,15 @@ abbrev pub visit_state : ServerValue → List ℕ → WireTrace → VisitState
 visit_state v rest wire = record { server = v; rest = rest; wire = wire }
 
 -- The result of a visit.
-pub record VisitResult : Type 0 where
+pub record VisitResult (W : Type 0) : Type 0 where
   pub outcome : PeerOutcome
-  pub history : History
+  pub history : History W
 
 -- The connection did with its bytes what `Takes` states. Then its queued bytes were offered to one write, if the wire
 -- may be written. The event of the write follows those of the takes.
-pub record IsTakenAndWritten (Takes : Taking) (may_write : Bool) (id : ℕ) (before after : VisitState)
-    (r : VisitResult) : Type 0 where
-  pub taken : TakeResult
+pub record IsTakenAndWritten {W : Type 0} (Takes : Taking W) (may_write : Bool) (id : ℕ) (before after : VisitState)
+    (r : VisitResult W) : Type 0 where
+  pub taken : TakeResult W
   pub took : Takes before.server id before.rest taken
   pub rest : after.rest ≡ kept_rest taken.server id taken.count before.rest
   pub wrote : Got
@@ -191,8 +192,8 @@ pub record IsTakenAndWritten (Takes : Taking) (may_write : Bool) (id : ℕ) (bef
   pub history : r.history ≡ record (taken.history) { events = taken.history.events ++ wrote_events id wrote }
 
 -- The steps that follow a read. If the read failed, there is none, and the connection has failed.
-abbrev pub IsCarriedOn : (failed : Bool) (Steps : VisitState → VisitState → VisitResult → Type 0) → VisitState
-    → VisitState → VisitResult → Type 0
+abbrev pub IsCarriedOn : {W : Type 0} (failed : Bool) (Steps : VisitState → VisitState → VisitResult W → Type 0)
+    → VisitState → VisitState → VisitResult W → Type 0
 IsCarriedOn true Steps before after r =
     (after.server ≡ before.server) × (after.wire ≡ before.wire)
     × (r ≡ record { outcome = Over drop.Failed; history = no_history })
@@ -201,23 +202,24 @@ IsCarriedOn false Steps before after r = Steps before after r
 -- One connection was served: a read if one is due, then processing, then a write if bytes are queued. A failed read
 -- ends this. The wire was read and written at no other time. The events are those of the read, of the takes and of the
 -- write, in this order.
-pub record IsServedOnceBy (Takes : Taking) (ready : Readiness) (id : ℕ) (before after : VisitState)
-    (r : VisitResult) : Type 0 where
+pub record IsServedOnceBy {W : Type 0} (Takes : Taking W) (ready : Readiness) (id : ℕ) (before after : VisitState)
+    (r : VisitResult W) : Type 0 where
   pub received : Got
   pub bytes : List ℕ
   pub between : WireTrace
   pub laid : IsLaidOut (is_read_due ready.read before.server id before.rest) before.rest before.wire received bytes
       between
-  pub later : History
+  pub later : History W
   pub carried : IsCarriedOn (has_failed received) (IsTakenAndWritten Takes ready.write id)
       (visit_state (server_read before.server id received) bytes between) after (record r { history = later })
   pub history : r.history ≡ record later { events = read_events id received ++ later.events }
 
--- One connection was served, and no application responds.
+-- One connection was served, and no application responds. The type of the listener's wires does not matter.
 abbrev pub IsServedOnce : (ready : Readiness) (id : ℕ) (before after : VisitState) (outcome : PeerOutcome)
     (events : List AcceptedCall) → Type 0
 IsServedOnce ready id before after outcome events =
-    IsServedOnceBy IsTakenAlone ready id before after (record { outcome = outcome; history = calls_only events })
+    IsServedOnceBy {W = Unit {0}} IsTakenAlone ready id before after
+    (record { outcome = outcome; history = calls_only events })
 
 -- To serve the connection has no effect, whatever its wire does: the wire is neither read nor written. There is an
 -- outcome. Every outcome leaves the server, the bytes left from its reads and the trace of its wire unchanged, and the

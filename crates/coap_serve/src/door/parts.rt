@@ -7,7 +7,7 @@ use super::awake::Awake;
 use super::service::Service;
 use super::silence::SilenceLimit;
 use super::sweep::sweep;
-use coap_io::{Ready, Wait, Wire};
+use coap_io::{Door, Ready, Wait, Wire};
 use coap_model::Backwards;
 use coap_server_engine::{Application, Call, Monitor, Server};
 
@@ -16,18 +16,21 @@ const MOST_RESPONSES: usize = 256;
 
 impl<W: Wire + Ready + Drop> Service<W> {
     ghost use Rattle.std.specs.Prelude.{◌++◌, List, is_ok, nat_le, OnErr, OnOk};
-    ghost use Rattle.coap_serve.specs.Prelude.{AcceptedCall, HasSwept, Shows, due_sweep, known_by, moved_to};
+    ghost use Rattle.coap_serve.specs.Prelude.{AcceptedCall, Continues, HasSwept, Shows, due_sweep, journal, moved_to};
     ghost use Rattle.coap_serve.specs.Prelude.{short_wait, ticked_calls};
 
     /// Releases or drops the silent connections, if there is a limit and `second` differs from that of the last turn.
-    pub(super) fn end_silent<A: Application, M: Monitor<W>>(
+    pub(super) fn end_silent<D: Door<Wire = W>, A: Application, M: Monitor<W>>(
         &mut self,
         second: u64,
+        door: &mut D,
         application: &mut A,
         monitor: &mut M,
     )
         requires { self.old.is_spent ≡ false }
-        ensures swept { HasSwept (known_by M.follows A.follows monitor.old monitor.new application.old application.new)
+        ensures swept { HasSwept (Continues
+            (journal (M.follows monitor.old) (A.follows application.old) (D.calls door.old))
+            (journal (M.follows monitor.new) (A.follows application.new) (D.calls door.new)))
             (due_sweep self.old.idle self.old.second second self.old.server self.old.peers.entries) self.old.server
             self.new.server }
         ensures entries { self.new.peers.entries
@@ -44,10 +47,11 @@ impl<W: Wire + Ready + Drop> Service<W> {
         if second == last {
             return;
         }
-        sweep::<W, A, M>(
+        sweep::<W, D, A, M>(
             &mut self.server,
             &mut self.peers,
             SilenceLimit { idle, now: second },
+            door,
             application,
             monitor,
         );

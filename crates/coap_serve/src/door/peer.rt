@@ -1,8 +1,9 @@
 //! The transport side of a connection, and how a turn serves it.
 
-ghost use Rattle.std.specs.Prelude.{◌≡◌, ◌≢◌, ◌≤◌, ◌||◌, nat_lt, false, [], length, is_some, IfOk, IfErr};
+ghost use Rattle.std.specs.Prelude.{◌≡◌, ◌≢◌, ◌≤◌, ◌||◌, nat_lt, false, [], length, is_some, Some, IfOk, IfErr};
 ghost use Rattle.std.specs.Prelude.{vec_capacity};
-ghost use Rattle.coap_serve.specs.Prelude.{HasServed, IsTakenInPart, IsVisited, known_by, views_of, way};
+ghost use Rattle.coap_serve.specs.Prelude.{Continues, HasServed, IsTakenInPart, IsVisited, journal, keys_of, views_of};
+ghost use Rattle.coap_serve.specs.Prelude.{way};
 ghost use Rattle.coap_serve.specs.Prelude.{visit, AddsBytes, AreCallsBetween, KeepsBeside};
 ghost use Rattle.coap_serve.specs.Prelude.{HasAccepted, IsTakenWith, AddsCalls, read_events, wrote_events};
 ghost use Rattle.coap_serve.specs.Prelude.{has_written, trace_by, IsLaidOut, is_read_due, server_read};
@@ -32,6 +33,20 @@ pub(super) struct Peer<W> {
     pub(super) rest: ReadBuffer,
     /// Times of the connection.
     pub(super) activity: Activity,
+}
+
+impl<W> Peer<W> {
+    /// Returns the transport connection.
+    pub(super) fn into_wire(self) -> W
+        ensures { result ≡ self.wire }
+    {
+        let Peer {
+            wire,
+            rest: _rest,
+            activity: _activity,
+        } = self;
+        wire
+    }
 }
 
 impl<W: Ready> Peer<W> {
@@ -114,10 +129,14 @@ pub(super) fn serve_peer<W: Wire + Ready, A: Application, M: Monitor<W>>(
     // is not touched. The monitor receives the calls of these steps, and no others.
     ensures part { IfOk result (λ x. HasAccepted (λ h. IsVisited (way A.follows turn.second (views_of W.readable
         W.writable W.given W.written W.answers W.rooms)) server.old (turn.index.id, peer.old)
-        (visit server.new peer.new x.outcome h))
-        (known_by M.follows A.follows monitor.old monitor.new application.old application.new) server.old server.new) }
-    ensures shows { HasServed (known_by M.follows A.follows monitor.old monitor.new application.old application.new)
-        server.old server.new }
+        (visit server.new peer.new x.outcome h)) (Continues
+        (journal (M.follows monitor.old) (A.follows application.old) (Some []))
+        (journal (M.follows monitor.new) (A.follows application.new) (Some []))) server.old server.new) }
+    ensures shows { HasServed {W = W} (Continues
+        (journal (M.follows monitor.old) (A.follows application.old) (Some []))
+        (journal (M.follows monitor.new) (A.follows application.new) (Some []))) server.old server.new }
+    // No connection was added, removed or moved.
+    ensures keys { keys_of server.new.sessions ≡ keys_of server.old.sessions }
     ensures interest { IfOk result (λ x. x.interest ≡ interest_of server.new turn.index.id peer.new.rest) }
     // Each other connection that is not affected has the same work left.
     ensures kept { IfOk result (λ x. KeepsBeside turn.index.id x.affected.words server.old server.new) }
@@ -255,12 +274,15 @@ fn take_buffered<W, A: Application, M: Monitor<W>>(
     monitor: &mut M,
 ) -> Result<Served, IoFault>
     requires { HasResponseRoom server.old.config (vec_capacity response.old) }
-    ensures taken { IfOk result (λ s. HasAccepted (λ h. IsTakenInPart (IsTakenWith A.follows) server.old id rest.old
-        rest.new (record { server = server.new; count = s.count; history = h }))
-        (known_by M.follows A.follows monitor.old monitor.new application.old application.new) server.old server.new) }
+    ensures taken { IfOk result (λ s. HasAccepted {W = W} (λ h. IsTakenInPart (IsTakenWith A.follows) server.old id
+        rest.old rest.new (record { server = server.new; count = s.count; history = h })) (Continues
+        (journal (M.follows monitor.old) (A.follows application.old) (Some []))
+        (journal (M.follows monitor.new) (A.follows application.new) (Some []))) server.old server.new) }
     ensures kept { IfOk result (λ s. KeepsWork s.affected.words server.old server.new) }
-    ensures shows { HasServed (known_by M.follows A.follows monitor.old monitor.new application.old application.new)
-        server.old server.new }
+    ensures shows { HasServed {W = W} (Continues
+        (journal (M.follows monitor.old) (A.follows application.old) (Some []))
+        (journal (M.follows monitor.new) (A.follows application.new) (Some []))) server.old server.new }
+    ensures keys { keys_of server.new.sessions ≡ keys_of server.old.sessions }
     ensures fault { IfErr result IsMemory }
     ensures capacity { vec_capacity response.old ≤ vec_capacity response.new }
 {

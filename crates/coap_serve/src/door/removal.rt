@@ -1,9 +1,8 @@
 //! The drop of a connection, and the record of one that was released.
 
-ghost use Rattle.std.specs.Prelude.{◌≡◌, ◌<◌, ◌+◌, length, remove, slice_get, IfSome};
-ghost use Rattle.coap_serve.specs.Prelude.{ArePaired, HasServed, IsAccepted, IsReasonFor, keys_of, known_by};
-ghost use Rattle.coap_serve.specs.Prelude.{one_drop, work_of, released_at as released, released_on};
-ghost use Rattle.coap_serve.specs.Prelude.{server_dropped, set_value_at};
+ghost use Rattle.std.specs.Prelude.{◌≡◌, ◌<◌, ◌+◌, [], ◌∷◌, Some, length, remove, slice_get, IfSome};
+ghost use Rattle.coap_serve.specs.Prelude.{ArePaired, Closed, Continues, HasSwept, IsReasonFor, drop_one, journal};
+ghost use Rattle.coap_serve.specs.Prelude.{work_of, released_at as released, released_on, set_value_at};
 
 use super::peer::Peers;
 use coap_model::ConnId;
@@ -29,8 +28,7 @@ pub(super) fn release_at<W>(peers: &mut Peers<W>, at: usize, now: u64)
     peer.activity = peer.activity.ended(now);
 }
 
-/// Drops the connection at an index, for this reason.
-#[tactic(auto, using(crate::proofs::listener::ServingLemmas::dropped_served))]
+/// Drops the connection at an index, for this reason. Returns its wire, which the caller gives back to the listener.
 pub(super) fn drop_at<W: Drop, A: Application, M: Monitor<W>>(
     server: &mut Server,
     peers: &mut Peers<W>,
@@ -38,22 +36,21 @@ pub(super) fn drop_at<W: Drop, A: Application, M: Monitor<W>>(
     reason: DropReason,
     application: &mut A,
     monitor: &mut M,
-)
+) -> W
     requires there { at < length peers.old.entries }
     requires paired { ArePaired server.old peers.old.entries }
     requires reason { IfSome (slice_get peers.old.entries at)
         (λ e. IfSome (work_of server.old e.0) (IsReasonFor reason)) }
-    ensures shows { HasServed (known_by M.follows A.follows monitor.old monitor.new application.old application.new)
-        server.old server.new }
     ensures paired { ArePaired server.new peers.new.entries }
     ensures peers { peers.new.entries ≡ remove peers.old.entries at }
     ensures fewer { length peers.new.entries + 1 ≡ length peers.old.entries }
-    ensures server { IfSome (slice_get (keys_of peers.old.entries) at)
-        (λ id. server.new ≡ server_dropped server.old id) }
-    ensures accepted { IfSome (slice_get (keys_of peers.old.entries) at) (λ id. IsAccepted (known_by M.follows A.follows
-        monitor.old monitor.new application.old application.new) server.old server.new (one_drop id)) }
+    // The result is the wire that the listener is to get.
+    ensures dropped { IfSome (slice_get peers.old.entries at) (λ e. HasSwept (Continues
+        (journal (M.follows monitor.old) (A.follows application.old) (Some []))
+        (journal (M.follows monitor.new) (A.follows application.new) (Some (Closed result ∷ []))))
+        (drop_one server.old e) server.old server.new) }
 {
-    let Some((id, _)) = peers.shift_remove_index(at) else {
+    let Some((id, peer)) = peers.shift_remove_index(at) else {
         unreachable!()
     };
     monitor.accepted(Call::Dropped(id, reason), server);
@@ -61,4 +58,5 @@ pub(super) fn drop_at<W: Drop, A: Application, M: Monitor<W>>(
         unreachable!()
     };
     application.gone(id);
+    peer.into_wire()
 }

@@ -51,8 +51,8 @@ pub struct Times {
 }
 
 /// Server together with the transport connections that it serves. A program embeds it and calls `turn` for each
-/// iteration of its event loop. Unless an allocation failed in a turn, each connection of the server has one transport
-/// connection, and nothing can be done on those that sleep.
+/// iteration of its event loop. Each connection of the server has one transport connection. Unless an allocation failed
+/// in a turn, nothing can be done on those that sleep.
 #[derive(Drop)]
 pub struct Service<W: Ready> {
     pub(super) alloc: Global,
@@ -66,15 +66,16 @@ pub struct Service<W: Ready> {
     /// `second` of the last turn.
     pub(super) second: u64,
     pub(super) is_spent: bool,
-    ghost paired: { is_spent ≡ false → ArePaired server peers.entries } by { Prim.hlevel props },
+    ghost paired: { ArePaired server peers.entries } by { Prim.hlevel props },
     ghost room: { HasResponseRoom server.config (vec_capacity response) } by { Prim.hlevel props },
     ghost asleep: { is_spent ≡ false → AreAsleep W.readable W.writable awake server peers.entries },
 }
 
 impl<W: Wire + Ready + Drop> Service<W> {
     ghost use Rattle.std.specs.Prelude.{◌+◌, ◌++◌, ◌∷◌, true, List, [], is_none, is_ok, IfErr, IfOk, OnErr, OnOk, Err};
-    ghost use Rattle.std.specs.Prelude.{Option, nat_eq};
-    ghost use Rattle.coap_serve.specs.Prelude.{environment, known_by, known_of_turn, RefusedBy};
+    ghost use Rattle.std.specs.Prelude.{Option, Some, nat_eq, option_map};
+    ghost use Rattle.std.specs.Map.{lookup};
+    ghost use Rattle.coap_serve.specs.Prelude.{environment, Continues, HasAccepted, journal, closings, RefusedBy};
     ghost use Rattle.coap_serve.specs.Prelude.{RefusedOrMemory, put_refusal, remove_refusal, HasRun};
     ghost use Rattle.coap_serve.specs.Prelude.{IsCutTurn, IsTurnFor, config_of, service_of, AnswersMore};
     ghost use Rattle.coap_serve.specs.Prelude.{Gone, FollowsMore, AddsCalls, views_of, IsMemory};
@@ -230,8 +231,8 @@ impl<W: Wire + Ready + Drop> Service<W> {
         Ok(())
     }
 
-    /// Removes a connection, with its queued bytes, and closes its transport connection. If it succeeds, the monitor
-    /// receives the call, and the application the end of the connection.
+    /// Removes a connection, with its queued bytes, and returns its transport connection. To drop that closes it. If it
+    /// succeeds, the monitor receives the call, and the application the end of the connection.
     ///
     /// # Errors
     ///
@@ -241,8 +242,10 @@ impl<W: Wire + Ready + Drop> Service<W> {
         id: ConnId,
         application: &mut A,
         monitor: &mut M,
-    ) -> Result<(), NoSuch>
+    ) -> Result<W, NoSuch>
         ensures answer { is_ok result ≡ is_there (session_of id self.old.server.sessions) }
+        ensures wire { IfOk result (λ wire. option_map (λ p. p.wire) (lookup (nat_eq id) self.old.peers.entries)
+            ≡ Some wire) }
         ensures ok { OnOk result (self.new.server ≡ server_dropped self.old.server id) }
         ensures shows { OnOk result ((events : List AcceptedCall) → Shows self.old.server events →
             Shows self.new.server (events ++ Dropped id ∷ [])) }
@@ -264,9 +267,11 @@ impl<W: Wire + Ready + Drop> Service<W> {
             unreachable!()
         };
         application.gone(id);
-        let _ = self.peers.shift_remove(&id);
+        let Some(peer) = self.peers.shift_remove(&id) else {
+            unreachable!()
+        };
         self.awake.wake_all();
-        Ok(())
+        Ok(peer.into_wire())
     }
 
     /// Runs one turn of the event loop at these times. Returns how long the listener may wait before the next turn.
@@ -296,36 +301,50 @@ impl<W: Wire + Ready + Drop> Service<W> {
         monitor: &mut M,
     ) -> Result<Wait, IoFault>
         // The events of a turn, made in full or in part, and its exchanges with the application.
-        ensures ran { HasRun (known_by M.follows A.follows monitor.old monitor.new application.old application.new)
+        ensures ran { HasRun (Continues
+            (journal (M.follows monitor.old) (A.follows application.old) (D.calls door.old))
+            (journal (M.follows monitor.new) (A.follows application.new) (D.calls door.new)))
             self.old.server self.new.server }
-        // The clause determines how each connection was served, and the result. The wire of a dropped connection is
-        // gone, so only the existence of a fitting one is stated.
-        ensures turn { IfOk result (λ wait. IsTurnFor (environment A.follows A.idle (A.waits application.new)
-            (views_of W.readable W.writable W.given W.written W.answers W.rooms)) times (known_of_turn
-            (AddsCalls (D.calls door.old) (D.calls door.new)) (known_by M.follows A.follows monitor.old monitor.new
-            application.old application.new)) (service_of self.old.server self.old.peers.entries self.old.second
-            self.old.idle) (service_of self.new.server self.new.peers.entries self.new.second self.new.idle) wait) }
+        // The clause determines how each connection was served, the wires that the listener got back, and the result.
+        ensures turn { IfOk result (λ wait. HasAccepted (IsTurnFor (environment A.follows A.idle
+            (A.waits application.new) (views_of W.readable W.writable W.given W.written W.answers W.rooms)) times
+            (service_of self.old.server self.old.peers.entries self.old.second self.old.idle)
+            (service_of self.new.server self.new.peers.entries self.new.second self.new.idle) wait) (Continues (journal
+            (M.follows monitor.old) (A.follows application.old) (D.calls door.old)) (journal (M.follows monitor.new)
+            (A.follows application.new) (D.calls door.new))) self.old.server self.new.server) }
         // The monitor has passed on what it received.
         ensures passed { OnOk result (M.has_passed monitor.new) }
         // After a failed allocation, only the visits may lack parts.
-        ensures cut { OnErr result (self.old.is_spent ≡ false → IsCutTurn A.follows A.idle times (known_of_turn
-            (AddsCalls (D.calls door.old) (D.calls door.new))
-            (known_by M.follows A.follows monitor.old monitor.new application.old application.new))
-            (service_of self.old.server self.old.peers.entries self.old.second self.old.idle) self.new.server) }
+        ensures cut { OnErr result (self.old.is_spent ≡ false → HasAccepted (IsCutTurn A.follows A.idle times
+            (service_of self.old.server self.old.peers.entries self.old.second self.old.idle) self.new.server)
+            (Continues (journal (M.follows monitor.old) (A.follows application.old) (D.calls door.old))
+            (journal (M.follows monitor.new) (A.follows application.new) (D.calls door.new)))
+            self.old.server self.new.server) }
         ensures fault { IfErr result IsMemory }
         ensures ready { OnOk result (self.new.is_spent ≡ false) }
         ensures spent { OnErr result (self.new.is_spent ≡ true) }
-        ensures over { self.old.is_spent ≡ true → (self.new ≡ self.old) × (result ≡ Err fault.Memory) }
+        ensures over { self.old.is_spent ≡ true → (result ≡ Err fault.Memory) × (self.new ≡ self.old)
+            × (door.new ≡ door.old) × (application.new ≡ application.old) × (monitor.new ≡ monitor.old) }
     {
         if self.is_spent {
             return Err(IoFault::Memory);
         }
-        self.end_silent(times.second, application, monitor);
+        self.end_silent(times.second, door, application, monitor);
         let _ = self.tick(times.now, monitor);
         let is_full = self.answer_later(application, monitor);
         let next = self.visit(door, application, monitor)?;
         monitor.turn_ended();
         let limit = limit_for(is_full, application.wait(times.now));
         Ok(self.at_most_a_second(wait_within(limit, next)))
+    }
+
+    /// Gives the wires of all connections back to the listener, in order.
+    pub(super) fn close<D: Door<Wire = W>>(self, door: &mut D)
+        ensures { AddsCalls (D.calls door.old) (D.calls door.new) (closings self.peers.entries) }
+    {
+        let Service { peers, .. } = self;
+        for peer in peers.into_values() {
+            door.closed(peer.into_wire());
+        }
     }
 }

@@ -10,12 +10,12 @@ use coap_server_engine::{Application, ConnIndex, IoFault, Monitor};
 
 impl<W: Wire + Ready + Drop> Service<W> {
     ghost use Rattle.std.specs.Prelude.{◌≡◌, ◌<◌, ◌≤◌, ◌+◌, ◌-◌, ◌^◌, false, true, Ok, Some, length, is_none};
-    ghost use Rattle.std.specs.Prelude.{slice_get, IfSome, IfOk, IfErr, OnOk, OnErr};
-    ghost use Rattle.coap_serve.specs.Prelude.{CanGoOn, peer_status, ArePaired, AreAsleep, HasServed, HasTurned};
-    ghost use Rattle.coap_serve.specs.Prelude.{known_by, known_of_turn, loop_state, way, AreServed, HasGoneOn};
-    ghost use Rattle.coap_serve.specs.Prelude.{IsOpening, IsRequestedOnce, door_calls, AddsCalls, AreCallsBetween};
-    ghost use Rattle.coap_serve.specs.Prelude.{HasAccepted, HasOpened, opening, views_of, IsMemory, open_refusal};
-    ghost use Rattle.coap_serve.specs.Prelude.{IsTurnBy};
+    ghost use Rattle.std.specs.Prelude.{slice_get, IfSome, IfOk, IfErr, OnOk, OnErr, None, [], ◌∷◌};
+    ghost use Rattle.coap_serve.specs.Prelude.{CanGoOn, peer_status, AreAsleep, HasServed, HasTurned, Continues};
+    ghost use Rattle.coap_serve.specs.Prelude.{journal, loop_state, way, AreServed, HasGoneOn, FollowsMore};
+    ghost use Rattle.coap_serve.specs.Prelude.{IsOpening, AddsCalls, HasAccepted, views_of, IsMemory, open_refusal};
+    ghost use Rattle.coap_serve.specs.Prelude.{IsTurnBy, Closed};
+    ghost use Rattle.coap_io.specs.streams.DeviceTraces.{Requested};
 
     /// Opens at most one connection, if the listener returns one, and serves each connection. Returns how long the
     /// listener may wait before the next turn, as `turn` describes.
@@ -30,16 +30,18 @@ impl<W: Wire + Ready + Drop> Service<W> {
         monitor: &mut M,
     ) -> Result<Wait, IoFault>
         requires { self.old.is_spent ≡ false }
-        ensures shows { HasTurned (known_by M.follows A.follows monitor.old monitor.new application.old application.new)
+        ensures shows { HasTurned (Continues
+            (journal (M.follows monitor.old) (A.follows application.old) (D.calls door.old))
+            (journal (M.follows monitor.new) (A.follows application.new) (D.calls door.new)))
             self.old.server self.new.server }
-        // The listener is asked once if another connection may be opened, and not otherwise.
-        ensures asks { IsRequestedOnce (AddsCalls (D.calls door.old) (D.calls door.new)) self.old.server }
-        // Each connection is served, and the result is the time that the listener may wait. The monitor receives the
-        // calls of this turn, and no others.
-        ensures turn { IfOk result (λ wait. IsTurnBy (way A.follows self.old.second (views_of W.readable W.writable
-            W.given W.written W.answers W.rooms)) (known_of_turn (AddsCalls (D.calls door.old) (D.calls door.new))
-            (known_by M.follows A.follows monitor.old monitor.new application.old application.new)) (loop_state
-            self.old.server self.old.peers.entries) (loop_state self.new.server self.new.peers.entries) wait) }
+        // Each connection is served, and the result is the time that the listener may wait. The monitor and the
+        // listener receive the calls of this turn, and no others.
+        ensures turn { IfOk result (λ wait. HasAccepted (IsTurnBy (way A.follows self.old.second (views_of W.readable
+            W.writable W.given W.written W.answers W.rooms)) (loop_state self.old.server self.old.peers.entries)
+            (loop_state self.new.server self.new.peers.entries) wait) (Continues
+            (journal (M.follows monitor.old) (A.follows application.old) (D.calls door.old))
+            (journal (M.follows monitor.new) (A.follows application.new) (D.calls door.new)))
+            self.old.server self.new.server) }
         ensures fault { IfErr result IsMemory }
         ensures times { (self.new.second ≡ self.old.second) × (self.new.idle ≡ self.old.idle) }
         ensures ready { OnOk result (self.new.is_spent ≡ false) }
@@ -48,7 +50,7 @@ impl<W: Wire + Ready + Drop> Service<W> {
         self.is_spent = true;
         self.awake.wake_places(door.woken());
         let opens = self.accept(door, monitor)?;
-        self.serve_each(application, monitor)?;
+        self.serve_each(door, application, monitor)?;
         let wait = next_wait(&self.server, &self.peers, &mut self.awake, opens);
         self.is_spent = false;
         Ok(wait)
@@ -58,33 +60,29 @@ impl<W: Wire + Ready + Drop> Service<W> {
     ///
     /// # Errors
     ///
-    /// - `Memory`: an allocation failed.
-    #[tactic(auto, using(crate::proofs::listener::ServingLemmas::none_opened, crate::proofs::listener::ServingLemmas::one_opened, crate::proofs::listener::ServingLemmas::opening_called))]
+    /// - `Memory`: an allocation failed. The listener has its wire back.
     fn accept<D: Door<Wire = W>, M: Monitor<W>>(
         &mut self,
         door: &mut D,
         monitor: &mut M,
     ) -> Result<bool, IoFault>
         requires spent { self.old.is_spent ≡ true }
-        requires paired { ArePaired self.old.server self.old.peers.entries }
         requires asleep { AreAsleep W.readable W.writable self.old.awake self.old.server self.old.peers.entries }
-        ensures shows { HasOpened (M.follows monitor.old) (M.follows monitor.new) self.old.server self.new.server }
-        ensures paired { OnOk result (ArePaired self.new.server self.new.peers.entries) }
         ensures asleep { OnOk result
             (AreAsleep W.readable W.writable self.new.awake self.new.server self.new.peers.entries) }
         ensures fault { IfErr result IsMemory }
         // The listener is asked once if another connection may be opened. Otherwise it is not asked, so it returns no
         // wire for which none could be opened.
-        ensures opened { IfOk result (λ opens. IsOpening self.old.second (AddsCalls (D.calls door.old)
-            (D.calls door.new)) (loop_state self.old.server self.old.peers.entries)
+        ensures opened { IfOk result (λ opens. IsOpening self.old.second (λ h. FollowsMore (M.follows monitor.old)
+            (M.follows monitor.new) h.events × AddsCalls (D.calls door.old) (D.calls door.new) h.calls)
+            (loop_state self.old.server self.old.peers.entries)
             (loop_state self.new.server self.new.peers.entries) opens) }
         ensures passes { is_none (open_refusal self.old.server) ≡ false →
             (door.new ≡ door.old) × (result ≡ Ok false) }
-        ensures accepted { IfOk result (λ opens. AreCallsBetween (M.follows monitor.old) (M.follows monitor.new)
-            self.old.server self.new.server (opening self.old.server opens)) }
-        // An allocation fails only for a wire that the listener returned.
-        ensures refused { OnErr result ((wire : W) ×
-            AddsCalls (D.calls door.old) (D.calls door.new) (door_calls self.old.server (Some wire))) }
+        // An allocation fails only for a wire that the listener returned, and it gets this wire back.
+        ensures refused { OnErr result ((self.new.server ≡ self.old.server) × (monitor.new ≡ monitor.old)
+            × (is_none (open_refusal self.old.server) ≡ true) × (wire : W)
+            × AddsCalls (D.calls door.old) (D.calls door.new) (Requested (Some wire) ∷ Closed wire ∷ [])) }
         ensures times { (self.new.second ≡ self.old.second) × (self.new.idle ≡ self.old.idle) }
         ensures spent { self.new.is_spent ≡ true }
     {
@@ -95,9 +93,15 @@ impl<W: Wire + Ready + Drop> Service<W> {
             return Ok(false);
         };
         let Ok(rest) = ReadBuffer::new(self.alloc) else {
+            door.closed(wire);
+            return Err(IoFault::Memory);
+        };
+        let Ok(()) = self.peers.reserve(1) else {
+            door.closed(wire);
             return Err(IoFault::Memory);
         };
         let Ok(id) = self.server.open() else {
+            door.closed(wire);
             return Err(IoFault::Memory);
         };
         monitor.opened(id, &wire, &self.server);
@@ -107,10 +111,11 @@ impl<W: Wire + Ready + Drop> Service<W> {
             rest,
             activity,
         };
-        self.awake.wake(self.peers.len());
+        let at = self.peers.len();
         let Ok(_) = self.peers.insert(id, peer) else {
-            return Err(IoFault::Memory);
+            unreachable!()
         };
+        self.awake.wake(at);
         Ok(true)
     }
 
@@ -121,22 +126,25 @@ impl<W: Wire + Ready + Drop> Service<W> {
     ///
     /// - `Memory`: an allocation failed.
     #[tactic(auto, using(crate::proofs::listener::ServingLemmas::both_made))]
-    fn serve_each<A: Application, M: Monitor<W>>(
+    fn serve_each<D: Door<Wire = W>, A: Application, M: Monitor<W>>(
         &mut self,
+        door: &mut D,
         application: &mut A,
         monitor: &mut M,
     ) -> Result<(), IoFault>
         requires spent { self.old.is_spent ≡ true }
-        requires paired { ArePaired self.old.server self.old.peers.entries }
         requires asleep { AreAsleep W.readable W.writable self.old.awake self.old.server self.old.peers.entries }
-        ensures shows { HasServed (known_by M.follows A.follows monitor.old monitor.new application.old application.new)
+        ensures shows { HasServed (Continues
+            (journal (M.follows monitor.old) (A.follows application.old) (D.calls door.old))
+            (journal (M.follows monitor.new) (A.follows application.new) (D.calls door.new)))
             self.old.server self.new.server }
         // Each connection in order is served, or skipped if nothing can be done on it.
         ensures served { OnOk result (HasAccepted (AreServed (way A.follows self.old.second (views_of W.readable
             W.writable W.given W.written W.answers W.rooms)) (loop_state self.old.server self.old.peers.entries)
-            (loop_state self.new.server self.new.peers.entries)) (known_by M.follows A.follows monitor.old monitor.new
-            application.old application.new) self.old.server self.new.server) }
-        ensures paired { OnOk result (ArePaired self.new.server self.new.peers.entries) }
+            (loop_state self.new.server self.new.peers.entries)) (Continues
+            (journal (M.follows monitor.old) (A.follows application.old) (D.calls door.old))
+            (journal (M.follows monitor.new) (A.follows application.new) (D.calls door.new)))
+            self.old.server self.new.server) }
         ensures asleep { OnOk result
             (AreAsleep W.readable W.writable self.new.awake self.new.server self.new.peers.entries) }
         ensures fault { IfErr result IsMemory }
@@ -145,7 +153,7 @@ impl<W: Wire + Ready + Drop> Service<W> {
     {
         let mut at = next_ready(&self.server, &self.peers, &self.awake, 0);
         while at < self.peers.len() {
-            let later = self.serve_next(at, application, monitor)?;
+            let later = self.serve_next(at, door, application, monitor)?;
             at = next_ready(&self.server, &self.peers, &self.awake, later);
         }
         Ok(())
@@ -157,27 +165,30 @@ impl<W: Wire + Ready + Drop> Service<W> {
     ///
     /// - `Memory`: an allocation failed.
     #[tactic(auto, using(crate::proofs::listener::EntryLemmas::length_written, crate::proofs::listener::ServingLemmas::both_made, crate::proofs::listener::SleepLemmas::paired_written))]
-    fn serve_next<A: Application, M: Monitor<W>>(
+    fn serve_next<D: Door<Wire = W>, A: Application, M: Monitor<W>>(
         &mut self,
         at: usize,
+        door: &mut D,
         application: &mut A,
         monitor: &mut M,
     ) -> Result<usize, IoFault>
         requires spent { self.old.is_spent ≡ true }
         requires there { at < length self.old.peers.entries }
         requires fits { length self.old.peers.entries < 2 ^ 64 }
-        requires paired { ArePaired self.old.server self.old.peers.entries }
         requires asleep { AreAsleep W.readable W.writable self.old.awake self.old.server self.old.peers.entries }
         requires ready { IfSome (slice_get self.old.peers.entries at)
             (λ e. CanGoOn (peer_status W.readable W.writable self.old.server e) true) }
-        ensures shows { HasServed (known_by M.follows A.follows monitor.old monitor.new application.old application.new)
+        ensures shows { HasServed (Continues
+            (journal (M.follows monitor.old) (A.follows application.old) (D.calls door.old))
+            (journal (M.follows monitor.new) (A.follows application.new) (D.calls door.new)))
             self.old.server self.new.server }
         // The connection was served, and the others are unchanged.
         ensures part { IfOk result (λ later. HasAccepted (HasGoneOn (way A.follows self.old.second (views_of W.readable
             W.writable W.given W.written W.answers W.rooms)) (loop_state self.old.server self.old.peers.entries) at
-            (loop_state self.new.server self.new.peers.entries) later) (known_by M.follows A.follows monitor.old
-            monitor.new application.old application.new) self.old.server self.new.server) }
-        ensures paired { OnOk result (ArePaired self.new.server self.new.peers.entries) }
+            (loop_state self.new.server self.new.peers.entries) later) (Continues
+            (journal (M.follows monitor.old) (A.follows application.old) (D.calls door.old))
+            (journal (M.follows monitor.new) (A.follows application.new) (D.calls door.new)))
+            self.old.server self.new.server) }
         ensures asleep { OnOk result
             (AreAsleep W.readable W.writable self.new.awake self.new.server self.new.peers.entries) }
         ensures within { IfOk result (λ later. later ≤ length self.new.peers.entries) }
@@ -203,7 +214,7 @@ impl<W: Wire + Ready + Drop> Service<W> {
         )?;
         match served.outcome {
             PeerOutcome::Over(reason) => {
-                drop_at::<W, A, M>(
+                let wire = drop_at::<W, A, M>(
                     &mut self.server,
                     &mut self.peers,
                     at,
@@ -211,6 +222,7 @@ impl<W: Wire + Ready + Drop> Service<W> {
                     application,
                     monitor,
                 );
+                door.closed(wire);
                 self.awake.wake_all();
                 Ok(at)
             }

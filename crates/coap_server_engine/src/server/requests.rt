@@ -12,6 +12,7 @@ use crate::taken_request::{TakenRequest, lent_if, lent_unless_stopped};
 use arrayvec::ArrayVec;
 use coap_frame::frame_of;
 use coap_model::{ConnId, Handled, TakeFault, Taken};
+use coap_server_session::StorageError;
 use coap_wire::{Code, MessageBuilder, Token};
 use std::alloc::AllocError;
 
@@ -158,7 +159,7 @@ impl Server {
     {
         let takes = self.sessions[index.at].takes();
         match self.sessions[index.at].take(&mut self.shared, piece) {
-            Err(bytes) => Err(TakeFault::Memory { bytes }),
+            Err(StorageError { bytes }) => Err(TakeFault::Memory { bytes }),
             Ok(taking) => {
                 settle_after(
                     taking.changed,

@@ -22,8 +22,7 @@ use Rattle.coap_server_session.specs.Prelude.{MayObserve, ServerState, moment_af
 use Rattle.coap_server_session.specs.Prelude.{goes_on, ObserverValue, ObserversValue, new_entry, answer_on, delay_on}
 use Rattle.coap_server_session.specs.Prelude.{delay_in, is_stale, mark_of, notification_on, state_on, first_index}
 use Rattle.coap_server_session.specs.Prelude.{is_sent, link_replied, entries_replied, entries_notified, without_entry}
-use Rattle.coap_server_session.specs.Prelude.{change_hash, shared_changed, AreMarked, changed_mark, marks_after}
-use Rattle.coap_server_session.proofs.values.CauseLemmas.{marked_after}
+use Rattle.coap_server_session.specs.Prelude.{change_hash, shared_changed, AreMarked, changed_mark}
 use Rattle.coap_server_session.proofs.values.EntryLemmas.{is_first}
 
 -- ---- a request
@@ -122,25 +121,22 @@ module _ (shared : ServerState) (m : Message) (unhanded : application_deadline s
       (rw (unhanded, none) refl, rw (unhanded, same_at_once shared.store shared.now m none) is)
 
   -- A request that changes the store gets no entry.
-  pub change_answered : (l : LinkValue) (o before p : ObserversValue) (planned : Answer) (hash : Option ℕ)
+  pub change_answered : (l : LinkValue) (o p : ObserversValue) (planned : Answer) (hash : Option ℕ)
       (after : LinkValue) (later : ServerState) → changes a.change ≡ true → planned.change ≡ a.change
-      → planned.response ≡ a.response → before.entries ≡ without_entry m.token o.entries
-      → before.room ≡ o.room → AreMarked shared before.entries before.marks → hash ≡ change_hash planned.change
-      → later ≡ shared_changed shared planned.change
-      → p ≡ record before { marks = marks_after hash later before.entries before.marks }
+      → planned.response ≡ a.response → hash ≡ change_hash planned.change
       → after ≡ link_after l (call.Reply (response_with_observe m.token false planned.response))
-      → IsAnswered shared l o m hash after p later
-  change_answered l o before p planned hash after later does change_is response_is entries_is room_is marked hash_is
-      later_is p_is after_is =
+      → p.entries ≡ without_entry m.token o.entries → p.room ≡ o.room → AreMarked later p.entries p.marks
+      → later ≡ shared_changed shared planned.change → IsAnswered shared l o m hash after p later
+  change_answered l o p planned hash after later does change_is response_is hash_is after_is entries_is room_is marked
+      later_is =
       let prompt = prompt_is in
       let watches = may_watch shared m in
-      let marks = marked_after shared planned.change before.entries before.marks marked in
       record {
         changed = cc prompt.1;
         link = grind (arith, prompt, watches);
         entries = grind (arith, prompt, watches);
-        room = cc;
-        marked = rw (p_is, hash_is, later_is) marks;
+        room = room_is;
+        marked = marked;
         shared_is = cc prompt.1;
       }
 

@@ -126,6 +126,8 @@ impl<'a> Door for ScriptedDoor<'a> {
             note(log.page, "wait", u64::from(opens), &[], &wait);
         }
     }
+
+    fn closed(&mut self, _wire: ScriptedWire<'a>) {}
 }
 
 impl<'a> Wires for ScriptedDoor<'a> {

@@ -1,14 +1,17 @@
 use Rattle.std.proofs.Common.{◌≡◌, false, length}
 use Rattle.coap_serve.specs.Prelude.{AreTurns, HasRun, Matches, RunTrace, AddsCalls, Turns, config_of, environment}
-use Rattle.coap_serve.specs.Prelude.{known_by, known_of_run, new_server, service_of, some_waits, views_of}
+use Rattle.coap_serve.specs.Prelude.{Continues, journal, known_of_run, new_server, service_of, some_waits, views_of}
 use Rattle.coap_serve.proofs.door.run.Given as goal
 
 -- The progress of the run.
 abbrev pub invariant-loop-turn : goal.invariant-loop-turn
 invariant-loop-turn g l =
+    let known =
+    Continues (journal (g.M.Monitor.follows l.fn.monitor) (g.A.Application.follows l.fn.application)
+    (g.D.Door.calls l.fn.door)) (journal (g.M.Monitor.follows l.monitor) (g.A.Application.follows l.application)
+    (g.D.Door.calls l.door)) in
     record {
-      ran : HasRun (known_by g.M.Monitor.follows g.A.Application.follows l.fn.monitor l.monitor l.fn.application
-          l.application) (new_server (config_of l.fn.setup.config)) l.service.server;
+      ran : HasRun known (new_server (config_of l.fn.setup.config)) l.service.server;
       front : RunTrace _;
       made : AreTurns (environment g.A.Application.follows g.A.Application.idle (some_waits g.A.Application.waits)
           (views_of g.D.Wire.Ready.readable g.D.Wire.Ready.writable g.D.Wire.Wire.given g.D.Wire.Wire.written
@@ -17,9 +20,7 @@ invariant-loop-turn g l =
       counted : length front.times ≡ l.turn;
       matches : Matches (known_of_run (AddsCalls (g.C.Clock.moments l.fn.clock) (g.C.Clock.moments l.clock))
           (AddsCalls (g.U.Clock.moments l.fn.uptime) (g.U.Clock.moments l.uptime))
-          (AddsCalls (g.D.Door.calls l.fn.door) (g.D.Door.calls l.door))
-          (known_by g.M.Monitor.follows g.A.Application.follows l.fn.monitor l.monitor l.fn.application l.application))
-          front;
+          known) front;
       ready : l.service.is_spent ≡ false;
       fault : l.fault ≡ Turns;
     }

@@ -6,5 +6,5 @@ use Rattle.coap_serve.proofs.door.serve_door.Goals as goal
 pub returns-clause-run : goal.returns-clause-run
 returns-clause-run g c =
     run_too (environment Silent Resting (some_waits Unlimited) (views_of _ _ _ _ _ _)) (plain_config _) _
-    (clock_and_door (AddsCalls _ _) (AddsCalls _ _)) (λ l is. is) (λ l is. tt) (λ l is. is) (λ h is. tt) _
+    (clock_and_door (AddsCalls _ _) (AddsCalls _ _)) (λ l is. is) (λ l is. tt) (λ h is. is.called) _
     (rw (is_plain c.args.config c.new-config.ensures) at c.run.ensures.run)

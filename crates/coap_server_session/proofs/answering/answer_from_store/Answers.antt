@@ -1,6 +1,6 @@
 use Rattle.std.proofs.Common.{◌≡◌, List, Bool, true, false, ◌&&◌, Some, None, nat_lt, length, refl, sym, ap, ◌∙◌}
 use Rattle.std.proofs.Math.Bool.{not-not}
-use Rattle.coap_server_session.specs.Prelude.{ObserverValue, ObserversValue, StoreValue, without_entry, is_observed}
+use Rattle.coap_server_session.specs.Prelude.{ObserverValue, ObserversValue, without_entry, is_observed}
 use Rattle.coap_server_session.specs.Prelude.{AreMarked, changed_mark, new_entry, is_whole, with_entry, Engine}
 use Rattle.coap_server_session.specs.Prelude.{asks_entry, Delay, delay_on}
 use Rattle.coap_store.specs.Answer.{Answer}
@@ -48,10 +48,10 @@ respond-reply-requires-clause-located c =
 -- The request changes nothing: its response is sent, and the entries after it are the defined ones.
 prompted : (c : After-respond-reply) (enters : Bool) (p : ObserversValue)
     → (c.if-asks_entry.observes && is_whole c.respond-reply.result) ≡ enters
-    → p.entries ≡ with_entry enters c.remove_token-2.new.self.entries
+    → p.entries ≡ with_entry enters c.remove_token.new.self.entries
     (new_entry c.args.shared.now c.args.request.now)
-    → p.room ≡ c.remove_token-2.new.self.room
-    → (AreMarked c.args.shared.now c.remove_token-2.new.self.entries c.remove_token-2.new.self.marks
+    → p.room ≡ c.remove_token.new.self.room
+    → (AreMarked c.args.shared.now c.remove_token.new.self.entries c.remove_token.new.self.marks
     → AreMarked c.args.shared.now p.entries p.marks)
     → IsAnswered c.args.shared.now c.args.link.now c.args.observers.now c.args.request.now None c.respond-reply.new.link
     p c.args.shared.now
@@ -63,23 +63,23 @@ prompted c enters p enters_is entries_is room_is marked =
     let answer = (prompt_is shared m c.requires.unhanded c.fill_plan-index.new.plan c.fill_plan-index.ensures.answer
     at_once).1 in
     let others : List ObserverValue = without_entry m.token o.entries in
-    let forgotten : c.remove_token-2.new.self.entries ≡ others =
-    rw c.token-2.ensures at c.remove_token-2.ensures.entries in
+    let forgotten : c.remove_token.new.self.entries ≡ others =
+    rw c.token-2.ensures at c.remove_token.ensures.entries in
     let asks = c.asks_entry.ensures ∙ ap asks_entry c.watch.ensures ∙ ap (λ (a : Answer). asks_entry a.watch) answer in
     let observed : c.if-asks_entry.observes ≡ is_observed shared o.room others m = elim c.if-asks_entry.branch [
       | then-asks_entry w ↦ cc (
         asks,
         not-not (nat_lt (length others) o.room),
         w.if-asks_entry.true,
-        rw (forgotten, c.remove_token-2.ensures.room) at w.is_full.ensures,
+        rw (forgotten, c.remove_token.ensures.room) at w.is_full.ensures,
         w.observes-is,
       )
       | else-asks_entry w ↦ cc (asks, w.if-asks_entry.false, w.observes-is)
     ] in
-    let marked_before = c.remove_token-2.ensures.marks (changed_mark shared) c.requires.marked in
+    let marked_before = c.remove_token.ensures.marks (changed_mark shared) c.requires.marked in
     prompt_answered shared m c.requires.unhanded c.fill_plan-index.new.plan c.fill_plan-index.ensures.answer at_once
-    c.args.link.now o c.remove_token-2.new.self p c.if-asks_entry.observes enters c.respond-reply.result
-    c.respond-reply.new.link (sym c.changes.ensures ∙ c.if-changes.false) forgotten c.remove_token-2.ensures.room
+    c.args.link.now o c.remove_token.new.self p c.if-asks_entry.observes enters c.respond-reply.result
+    c.respond-reply.new.link (sym c.changes.ensures ∙ c.if-changes.false) forgotten c.remove_token.ensures.room
     marked_before observed enters_is (rw c.token-3.ensures at c.respond-reply.ensures.reply)
     (rw c.token-3.ensures at c.respond-reply.ensures.after) entries_is room_is (marked marked_before)
 
@@ -99,7 +99,7 @@ returns-else-observes c =
           ∙ sym w.is_whole.ensures ∙ w.if-is_whole.false
       | else-observes-via-else-observes w ↦ ap (λ (b : Bool). b && is_whole c.respond-reply.result) w.if-observes.false
     ] in
-    assumption (prompted (goal.at.returns-else-observes c).After-respond-reply false c.remove_token-2.new.self misses
+    assumption (prompted (goal.at.returns-else-observes c).After-respond-reply false c.remove_token.new.self misses
     refl refl (λ marked. marked))
 
 -- ---- a change for which allocation failed, and one that was applied
@@ -113,14 +113,12 @@ returns-in_err-changed-clause-put c =
 
 pub returns-then-changes : goal.returns-then-changes
 returns-then-changes c =
-    let shared = c.args.shared.now in
-    let e = c.remove_token.ensures in
+    let planned = c.into_change-planned.ensures in
     let does = sym c.changes.ensures ∙ c.if-changes.true in
-    assumption (change_answered shared c.args.request.now c.requires.unhanded c.fill_plan-index.new.plan
+    let e = c.in_ok-changed.ensures in
+    assumption (change_answered c.args.shared.now c.args.request.now c.requires.unhanded c.fill_plan-index.new.plan
     c.fill_plan-index.ensures.answer (sym c.hold.ensures.seconds ∙ c.in_default.is) c.args.link.now
-    c.args.observers.now c.remove_token.new.self c.mark_changed.new.observers c.into_change-planned.result _ _
-    (record shared { store = c.change.new.store }) does (ap (λ (a : Answer). a.change) c.into_change-planned.ensures)
-    (ap (λ (a : Answer). a.response) c.into_change-planned.ensures ∙ sym (c.fill_plan-index.ensures.plain does))
-    (rw c.token.ensures at e.entries) e.room (e.marks (changed_mark shared) c.requires.marked)
-    c.in_ok-changed.ensures.hash (ap (λ (s : StoreValue). record shared { store = s }) c.in_ok-changed.ensures.ok)
-    c.mark_changed.ensures (rw c.token-then-changes.ensures at c.respond_change.ensures))
+    c.args.observers.now c.answer_change.new.observers c.into_change-planned.result _ _ _ does
+    (ap (λ (a : Answer). a.change) planned)
+    (ap (λ (a : Answer). a.response) planned ∙ sym (c.fill_plan-index.ensures.plain does))
+    e.changed (rw c.token.ensures at e.link) (rw c.token.ensures at e.entries) e.room e.marked e.shared)

@@ -4,7 +4,7 @@ use Rattle.coap_server_session.specs.Prelude.{is_request, SessionValue, sizes_of
 use Rattle.coap_server_session.specs.Prelude.{is_handed_over, change_hash, takes_messages}
 use Rattle.coap_conn.proofs.LinkLemmas.{stays_so}
 use Rattle.coap_server_session.proofs.values.SessionLemmas.{on_request, no_request_reported, message_handled}
-use Rattle.coap_server_session.specs.declared.answering.RequestEffect.{RequestEffect}
+use Rattle.coap_server_session.specs.declared.take_outcome.RequestEffect.{RequestEffect}
 use Rattle.coap_server_session.proofs.session.handle.Goals as goal
 use Rattle.std.proofs.lemmas.Bool.{cond-false}
 

@@ -34,6 +34,13 @@ returns-clause-part g c =
     }) wrote.server (rw c.work_at-work.ensures c.outcome.ensures) received.accepted wrote.accepted
     (rw (c.has_moved-moved.ensures, received.activity) at c.after-activity.ensures)
 
+pub returns-in_err-taken-clause-keys : goal.returns-in_err-taken-clause-keys
+returns-in_err-taken-clause-keys g c = c.take_buffered.ensures.keys ∙ c.read_wire-received.ensures.kept.keys
+
+pub returns-clause-keys : goal.returns-clause-keys
+returns-clause-keys g c =
+    c.write_once-wrote.ensures.kept.keys ∙ c.take_buffered.ensures.keys ∙ c.read_wire-received.ensures.kept.keys
+
 pub returns-clause-kept : goal.returns-clause-kept
 returns-clause-kept g c = beside_served _ c.read_wire-received.ensures.kept
     c.in_ok-taken.ensures.kept c.write_once-wrote.ensures.kept

@@ -1,7 +1,7 @@
-use Rattle.std.proofs.Common.{ap, false, is_ok, sym, true, ◌≡◌, ◌∙◌, refl}
+use Rattle.std.proofs.Common.{ap, false, is_ok, sym, true, ◌≡◌, ◌∙◌, refl, Some, [], ◌∷◌}
 use Rattle.std.proofs.lemmas.Option.{slice_get-map}
 use Rattle.coap_server_engine.proofs.values.ServerLemmas.{is_there_at}
-use Rattle.coap_serve.specs.Prelude.{session_of}
+use Rattle.coap_serve.specs.Prelude.{Closed, session_of}
 use Rattle.coap_serve.proofs.listener.ServingLemmas.{reason_left}
 use Rattle.coap_serve.proofs.listener.SleepLemmas.{lies_there, paired_without}
 use Rattle.coap_serve.proofs.door.removal.drop_at.Goals as goal
@@ -26,12 +26,16 @@ returns-clause-paired g c =
     (rw (slice_get-map, ← c.in-Some.ensures.entry) refl) c.in-Ok.ensures.ok c.shift_remove_index.ensures.entries
     c.shift_remove_index.ensures.unique
 
-pub returns-clause-server : goal.returns-clause-server
-returns-clause-server g c = rw (slice_get-map, ← c.in-Some.ensures.entry) c.in-Ok.ensures.ok
-
-pub returns-clause-accepted : goal.returns-clause-accepted
-returns-clause-accepted g c =
-    rw (slice_get-map, ← c.in-Some.ensures.entry) (record {
-      shows = c.in-Ok.ensures.shows;
-      known = record { calls = c.accepted.ensures; exchanged = c.gone.ensures };
+pub returns-clause-dropped : goal.returns-clause-dropped
+returns-clause-dropped g c =
+    rw (← c.in-Some.ensures.entry) (record {
+      server = c.in-Ok.ensures.ok;
+      accepted = record {
+        shows = c.in-Ok.ensures.shows;
+        known = record {
+          calls = c.accepted.ensures;
+          exchanged = c.gone.ensures;
+          called = ap (λ w. Some (Closed w ∷ [])) c.into_wire.ensures;
+        };
+      };
     })

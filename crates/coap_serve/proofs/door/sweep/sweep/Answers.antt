@@ -7,10 +7,11 @@ loop-at-init g c = (omega arith, none_swept _ c.args.peers.now.entries, c.requir
 
 pub loop-at-preserved : goal.loop-at-preserved
 loop-at-preserved g c = (
-  c.sweep_at-at.ensures.within,
-  one_more_swept _ _ _ _ _ c.sweep_at-at.result
-      (omega (arith, c.loop-at-test.true, c.len.ensures.len)) c.loop-at.invariant.1 c.sweep_at-at.ensures.part,
-  c.sweep_at-at.ensures.paired,
+  c.sweep_at-next.ensures.within,
+  one_more_swept _ _ _ _ _ _ _
+      (omega (arith, c.loop-at-test.true, c.len.ensures.len)) c.loop-at.invariant.1 c.sweep_at-next.ensures.part
+      c.give_back.ensures,
+  c.sweep_at-next.ensures.paired,
 )
 
 pub returns : goal.returns

@@ -1,5 +1,5 @@
 use Rattle.std.proofs.Common.{◌-◌, ◌≤◌, length, take, drop}
-use Rattle.coap_serve.specs.Prelude.{ArePaired, known_by, swept}
+use Rattle.coap_serve.specs.Prelude.{ArePaired, Continues, journal, swept}
 use Rattle.coap_serve.proofs.listener.RoundLemmas.{IsSweptTo}
 use Rattle.coap_serve.proofs.door.sweep.sweep.Given as goal
 
@@ -7,8 +7,9 @@ use Rattle.coap_serve.proofs.door.sweep.sweep.Given as goal
 abbrev pub invariant-loop-at : goal.invariant-loop-at
 invariant-loop-at g l =
     (l.at ≤ length l.peers.entries)
-    × IsSweptTo
-    (known_by g.M.Monitor.follows g.A.Application.follows l.fn.monitor l.monitor l.fn.application l.application)
+    × IsSweptTo (Continues
+    (journal (g.M.Monitor.follows l.fn.monitor) (g.A.Application.follows l.fn.application) (g.D.Door.calls l.fn.door))
+    (journal (g.M.Monitor.follows l.monitor) (g.A.Application.follows l.application) (g.D.Door.calls l.door)))
     (swept l.fn.limit.idle l.fn.limit.now l.fn.server l.fn.peers.entries) l.fn.limit.idle l.fn.limit.now l.fn.server
     l.server (take l.at l.peers.entries) (drop l.at l.peers.entries)
     × ArePaired l.server l.peers.entries

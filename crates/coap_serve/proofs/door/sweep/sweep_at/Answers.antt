@@ -2,7 +2,7 @@ use Rattle.std.proofs.Common.{arith, refl, sym, ◌∙◌}
 use Rattle.coap_server_engine.proofs.values.WorkLemmas.{keeps_others}
 use Rattle.coap_serve.specs.Prelude.{loop_state, released_at, session_released}
 use Rattle.coap_serve.specs.declared.door.silence.SilenceAction.TheVariants.{Keep, Release, Drop}
-use Rattle.coap_serve.proofs.listener.ServingLemmas.{answered_none}
+use Rattle.coap_serve.proofs.listener.ServingLemmas.{calls_known}
 use Rattle.coap_serve.proofs.listener.RoundLemmas.{acted_here, as_many_recorded, kept_here, paired_released}
 use Rattle.coap_serve.proofs.listener.RoundLemmas.{released_here}
 use Rattle.coap_serve.proofs.door.sweep.sweep_at.Goals as goal
@@ -28,7 +28,7 @@ returns-in-Ok-clause-part g c =
     (sym c.in-Ok.ensures.answer)
     (released_here _ _ there c.in-Ok.ensures.ok (rw there at c.release_at.ensures) (record {
       shows = c.in-Ok.ensures.shows;
-      known = record { calls = c.accepted.ensures; exchanged = answered_none _ };
+      known = calls_known c.accepted.ensures;
     }))
 
 pub returns-in-Ok-clause-paired : goal.returns-in-Ok-clause-paired

@@ -71,7 +71,7 @@ returns-in-Err c =
     let v = server_value c.self.inside in
     let t = (goal.at.returns-in-Err c).After-take in
     let is = refused c.self.invariant.server (lies t) (here t) e.refused e.kept e.unchanged in
-    let refuses : RefusesPieceOn v piece c.in-Err.bytes (session_of id v.sessions) = rw is.was e.refused in
+    let refuses : RefusesPieceOn v piece c.in-Err.field-0.bytes (session_of id v.sessions) = rw is.was e.refused in
     let value = ap (λ (k : Option ApplicationsValue). record v {
       config = config_with c.self.inside.config k;
       shared = c.take.new.shared;
@@ -81,8 +81,8 @@ returns-in-Err c =
     rw (← c.self.view_is) (assumption (
       refuses,
       value,
-      refused_take_shows (taking.Memory c.in-Err.bytes) _ _ id piece (refuses, value),
-      refused_for (taking.Memory c.in-Err.bytes) _ _ id piece (refuses, value),
+      refused_take_shows (taking.Memory c.in-Err.field-0.bytes) _ _ id piece (refuses, value),
+      refused_for (taking.Memory c.in-Err.field-0.bytes) _ _ id piece (refuses, value),
     ))
 
 -- ---- bytes were accepted

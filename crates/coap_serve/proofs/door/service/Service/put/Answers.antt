@@ -7,9 +7,9 @@ pub invariant_of-self : goal.invariant_of-self
 invariant_of-self g c =
     let kept = kept_or_not _ _ (c.concerned_by.ensures.put _ c.args.bytes.now) c.put.ensures.ok c.put.ensures.err in
     record {
-      paired = λ ready. paired_on (c.args.self.now.paired ready) kept.keys;
+      paired = paired_on c.args.self.now.paired kept.keys;
       room = keeps_room (config_or_not _ _ _ _ refl c.put.ensures.ok
           c.put.ensures.err) (omega arith) c.args.self.now.room;
       asleep = λ ready. asleep_on (sleep_joined kept c.join.ensures)
-          (c.args.self.now.paired ready) (c.args.self.now.asleep ready);
+          c.args.self.now.paired (c.args.self.now.asleep ready);
     }

@@ -11,8 +11,7 @@ invariant_of-self-2 g c =
     let v = c.args.self.now in
     let keys = (keeps_others v.server _ session_released c.release.ensures.settled).keys in
     record {
-      paired = λ ready. paired_released_on v.second _ (rw c.in_ok-release.ensures.ok keys)
-          c.release_on.ensures (v.paired ready);
+      paired = paired_released_on v.second _ (rw c.in_ok-release.ensures.ok keys) c.release_on.ensures v.paired;
       room = keeps_room (ap (λ u. u.config) c.in_ok-release.ensures.ok) (omega arith) v.room;
       asleep = λ ready. none_asleep c.wake_all.ensures;
     }

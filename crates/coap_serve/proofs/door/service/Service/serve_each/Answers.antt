@@ -14,7 +14,6 @@ loop-at-init g c = record {
     accepted = accepted_none _ _ _ refl;
   };
   shows = none_made _ refl;
-  paired = c.requires.paired;
   asleep = c.requires.asleep;
   times = (refl, refl);
   spent = c.requires.spent;
@@ -36,7 +35,6 @@ loop-at-preserved g c =
         accepted = accepted_then so_far.done.accepted one.accepted;
       };
       shows = both_made so_far.shows c.serve_next.ensures.shows;
-      paired = c.in_ok-later.ensures.paired;
       asleep = c.in_ok-later.ensures.asleep;
       times = (c.serve_next.ensures.times.0 ∙ so_far.times.0, c.serve_next.ensures.times.1 ∙ so_far.times.1);
       spent = c.serve_next.ensures.spent;

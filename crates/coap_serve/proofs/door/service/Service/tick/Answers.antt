@@ -9,11 +9,11 @@ pub invariant_of-self-2 : goal.invariant_of-self-2
 invariant_of-self-2 g c =
     let kept = kept_or_not _ _ (c.concerned_by_time.ensures _) c.tick.ensures.ok c.tick.ensures.err in
     record {
-      paired = λ ready. paired_on (c.args.self.now.paired ready) kept.keys;
+      paired = paired_on c.args.self.now.paired kept.keys;
       room = keeps_room (config_or_not _ _ _ _ refl c.tick.ensures.ok
           c.tick.ensures.err) (omega arith) c.args.self.now.room;
       asleep = λ ready. asleep_on (sleep_joined kept c.join.ensures)
-          (c.args.self.now.paired ready) (c.args.self.now.asleep ready);
+          c.args.self.now.paired (c.args.self.now.asleep ready);
     }
 
 -- The time is that of the server.
