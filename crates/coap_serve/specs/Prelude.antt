@@ -16,8 +16,8 @@ pub use Rattle.coap_server_engine.specs.Prelude.{bit_of, new_server, server_put,
 pub use Rattle.coap_server_engine.specs.Prelude.{AreSettled, server_dropped, ServerValue, LiesAt, server_opened}
 pub use Rattle.coap_server_engine.specs.Prelude.{is_there, server_released, settled_entry, count_on, session_becomes}
 pub use Rattle.coap_server_engine.specs.Prelude.{SessionValue, session_written, session_ended, session_released}
-pub use Rattle.coap_server_engine.specs.Prelude.{session_takes, Shows, Stream, split_on, LimitValues, AreInRange}
-pub use Rattle.coap_server_engine.specs.Prelude.{Reason, ConfigValues, Taken, count_of, handled_in, World, Step}
+pub use Rattle.coap_server_engine.specs.Prelude.{session_takes, Shows, split_on, AreInRange}
+pub use Rattle.coap_server_engine.specs.Prelude.{Reason, ConfigValues, Taken, count_of, handled_in, Step}
 pub use Rattle.coap_server_engine.specs.Prelude.{IsNotTaken, RefusesPieceOn, server_written, session_shown}
 pub use Rattle.coap_server_engine.specs.Prelude.{ShowsRefused, FormatFault, ReleaseFault, Responded, Ticked, WasRefused}
 pub use Rattle.coap_server_engine.specs.Prelude.{WasTaken, can_take_on, handed_by, responded_refusal, response_event}
@@ -106,7 +106,7 @@ pub use Rattle.coap_server_engine.specs.values.ServerDeadlines.{KeepsOthers, Kee
 unfoldable pub use Rattle.coap_server_engine.specs.values.Servers.{session_of, count_taken, server_taken}
 unfoldable pub use Rattle.coap_server_engine.specs.values.Flushes.{flush_turns}
 pub use Rattle.coap_server_engine.specs.values.Exchanges.{Requested, Offered, Given}
-pub use Rattle.coap_model.specs.streams.Output.{only_id, stream_of, stdio_output, Outcome, more_of, waiting_of}
+pub use Rattle.coap_model.specs.streams.Output.{only_id, stream_of, stdio_output, more_of, waiting_of}
 pub use Rattle.coap_model.specs.streams.Output.{outcome_on}
 unfoldable pub use Rattle.coap_model.specs.streams.Output.{flushed, flushed_after, outcome, world_for, written_times}
 pub use Rattle.coap_model.specs.world.Events.{Ended, stream_on, Wrote, beyond, spelled_on}

@@ -11,7 +11,7 @@ use Rattle.coap_serve.specs.Prelude.{LiesAt, AreSettled, session_of, server_take
 use Rattle.coap_serve.specs.Prelude.{InResult, fed_turns, in_result, fed_more, IsTakenAndWritten, IsTakenAlone, IsNoOp}
 use Rattle.coap_serve.specs.Prelude.{Readiness, VisitState, is_read_due, visit_state, waiting_once, server_wrote}
 use Rattle.coap_serve.specs.Prelude.{is_over_in, kept_unless, kept_rest, interest_of, can_go_on, work_of, WireTrace}
-use Rattle.coap_serve.specs.Prelude.{PeerInterest, PeerOutcome, calls_only, AcceptedCall, Took, read_events}
+use Rattle.coap_serve.specs.Prelude.{PeerOutcome, calls_only, AcceptedCall, Took, read_events}
 use Rattle.coap_serve.specs.Prelude.{refused_events, took, took_turns}
 use Rattle.coap_server_engine.specs.values.InResults.{goes_on, unfed}
 use Rattle.coap_serve.specs.declared.door.peer.PeerOutcome.TheVariants.{Open}
@@ -56,7 +56,7 @@ module _ (v : ServerValue) {id i : ℕ} {s : SessionValue} (lies : LiesAt id i v
     unfolding fed_turns
     untouched_where_stopped bytes zero = record { server = refl; count = refl }
     untouched_where_stopped bytes (suc turns) =
-        let f : InResult = fed_turns turns v id bytes in
+        let f = fed_turns turns v id bytes in
         let so_far = untouched_where_stopped bytes turns in
         elim (goes_on bytes f) as (λ b. IsUnaffected v (if b then fed_more id (drop f.count bytes) f else f)) [
           | true ↦ record {
@@ -138,9 +138,9 @@ pub passed_over : (v : ServerValue) (id i : ℕ) (rest : List ℕ) (ready : Read
     → AreSettled v.shared v.sessions → can_go_on (interest_of v id rest) ready ≡ false → IsNoOp ready v id rest
 passed_over v id i rest ready lies settled idle =
     let there = there_at (values_of v.sessions) i (rw (length-values_of v.sessions) lies.within) in
-    let s : SessionValue = there.0 in
+    let s = there.0 in
     let here : session_of id v.sessions ≡ Some s = lies.found ∙ there.1 in
-    let w : PeerInterest = interest_of v id rest in
+    let w = interest_of v id rest in
     let write = or_parts (w.visit || (w.read && ready.read)) (w.write && ready.write) idle in
     let read = or_parts w.visit (w.read && ready.read) write.0 in
     let on : is_over_in (work_of v id) ≡ false =

@@ -1,6 +1,6 @@
 -- The connections that a turn serves or skips, one after another, the effect of a sweep, and the entry of a connection
 -- that was released.
-use Rattle.std.proofs.Common.{ℕ, ◌≡◌, ◌+◌, ◌-◌, ◌<◌, ◌≤◌, true, false, List, [], ◌∷◌, ◌++◌, length, take, drop, Some}
+use Rattle.std.proofs.Common.{ℕ, ◌≡◌, ◌+◌, ◌<◌, ◌≤◌, true, false, List, [], ◌∷◌, ◌++◌, length, take, drop, Some}
 use Rattle.std.proofs.Common.{IfSome, refl, sym, ◌∙◌, arith, slice_get, remove, append_assoc, ◌==◌, Option, None, ap}
 use Rattle.std.proofs.Common.{subst, zero, suc, nat_eq, if◌then◌else◌, map, position, get_or, option_map, inl, inr}
 use Rattle.std.proofs.Common.{is_some}
@@ -17,13 +17,13 @@ use Rattle.coap_serve.specs.Prelude.{silence_action, drop_one, due_sweep, Sweep,
 use Rattle.coap_serve.specs.Prelude.{ReleaseFault, IsDistinct, released_on}
 use Rattle.coap_serve.specs.declared.door.peer.PeerOutcome.TheVariants.{Open}
 use Rattle.coap_serve.proofs.listener.EntryLemmas.{back_removed, back_written, beside_written, carried_on, front_kept}
-use Rattle.coap_serve.proofs.listener.EntryLemmas.{front_stays, front_written, next_first, some_at_index}
-use Rattle.coap_serve.proofs.listener.EntryLemmas.{length_written}
+use Rattle.coap_serve.proofs.listener.EntryLemmas.{front_stays, front_written, next_first, length_written}
+use Rattle.coap_model.proofs.OptionLemmas.{there_at}
 use Rattle.coap_serve.proofs.listener.ServingLemmas.{accepted_none, accepted_then, swept_called, then_assoc, then_none}
 use Rattle.std.proofs.lemmas.Bool.Decides.{nat_tests}
 use Rattle.coap_server_engine.specs.declared.monitor.DropReason.TheVariants as drop
 use Rattle.coap_serve.specs.listener.Silence.{release_one}
-use Rattle.coap_serve.proofs.listener.SleepLemmas.{paired_written}
+use Rattle.coap_serve.proofs.listener.SleepLemmas.{paired_same, paired_written}
 use Rattle.std.proofs.lemmas.Bool.{eq-eqb, eqb-true}
 use Rattle.std.proofs.lemmas.Cmp.{nat_eq_equiv}
 use Rattle.std.proofs.lemmas.Map.{NonePasses, lookup-none}
@@ -59,7 +59,7 @@ module _ {W : Type 0} (S : Way W) where
   skipped_to {start = start} {now = now} at to {h = h} order within calm so_far =
       carried_on (λ k. AreServedTo start now k h) at to order so_far
       (λ i after below before.
-      (let there = some_at_index now.entries i (omega (arith, below, within)) in
+      (let there = there_at now.entries i (omega (arith, below, within)) in
       one_skipped i there.1 (rw there.1 at (calm i after below)) before))
 
   pub one_served : {start s after : LoopState W} {i at : ℕ} {h k : History W} → HasGoneOn S s i after at k → AreServedTo
@@ -138,9 +138,8 @@ module _ {W : Type 0} (S : Way W) where
 pub as_many_recorded : {X : Type 0} (f : ℕ × X → X) (es left : List (ℕ × X)) (i : ℕ) → i < length es
     → IfSome (slice_get es i) (λ e. left ≡ set_value_at es i (f e)) → length left ≡ length es
 as_many_recorded f es left i within is =
-    let at = some_at_index es i within in
-    let is_so : left ≡ set_value_at es i (f at.0) = rw at.1 at is in
-    ap (λ (es : List _). length es) is_so ∙ length_written es i (f at.0)
+    let at = there_at es i within in
+    ap length (rw at.1 at is) ∙ length_written es i (f at.0)
 
 -- ---- one connection
 
@@ -154,7 +153,7 @@ pub dropped_here : {W : Type 0} (Known : History W → Type 0) (v after : Server
     → IfSome (slice_get es i) (λ e. HasSwept Known (drop_one v e) v after)
     → IfSome (slice_get es i) (λ e. HasSweptAt Known (drop_one v e) (loop_state v es) i (loop_state after left) i)
 dropped_here Known v after es left i within is dropped =
-    let at = some_at_index es i within in
+    let at = there_at es i within in
     rw at.1 (record {
       has = rw at.1 at dropped;
       front = rw (is, append-nil) (front_stays es i within);
@@ -174,8 +173,8 @@ released_here now {es = es} i {e = e} there released is accepted = record {
 -- The connection stays.
 pub kept_here : {W : Type 0} {a : Journal W} {s : LoopState W} {i : ℕ} {e : ℕ × Peer W} → slice_get s.entries i ≡ Some e
     → HasSweptAt (Continues a a) (unswept s.server (e ∷ [])) s i s (i + 1)
-kept_here {a = a} {s = s} {i = i} {e = e} there = record {
-  has = record { server = refl; accepted = accepted_none a s.server s.server refl };
+kept_here {s = s} {i = i} {e = e} there = record {
+  has = search accepted_none;
   front = front_kept s.entries i e there;
   back = refl;
 }
@@ -193,8 +192,9 @@ acted_here idle now action at is refused part = rw (at, ← is, ← refused) par
 pub paired_released : {W : Type 0} (now : ℕ) {v after : ServerValue} (i : ℕ) {es left : List (ℕ × Peer W)}
     → keys_of after.sessions ≡ keys_of v.sessions → i < length es → IfSome (slice_get es i) (λ e. left ≡ set_value_at es
     i (released_at now e.1)) → ArePaired v es → ArePaired after left
-paired_released now i {es = es} keys within is paired = let at = some_at_index es i within in paired_written paired i
-    (released_at now at.0.1) keys (rw at.1 at is)
+paired_released now i {es = es} keys within is paired =
+    let at = there_at es i within in
+    paired_written paired i (released_at now at.0.1) keys (rw at.1 at is)
 
 -- ---- all connections
 
@@ -228,9 +228,8 @@ pub one_more_swept : {W : Type 0} {a : Journal W} {m n : Following} {p q : Answe
 unfolding swept
 one_more_swept {m = m} {n = n} {p = p} {q = q} calls idle now {v = v} {w = w} es left i at within so_far part
     called =
-    let there = some_at_index es i within in
-    let one : HasSweptAt (Continues (journal m p (Some [])) (journal n q (Some calls))) (swept_one idle now v there.0)
-    (loop_state v es) i (loop_state w left) at = rw there.1 at part in
+    let there = there_at es i within in
+    let one = rw there.1 at part in
     let has = swept_called called one.has in
     let before = rw (next_first es i there.1) at so_far in
     rw (one.front, one.back, one.has.server) (record {
@@ -257,7 +256,7 @@ all_swept {Known = Known} {s = s} {u = u} {v = v} es i most so_far =
 
 pub unswept_made : {W : Type 0} (a : Journal W) {v : ServerValue} (es : List (ℕ × Peer W)) → HasSwept (Continues a a)
     (unswept v es) v v
-unswept_made a {v = v} es = record { server = refl; accepted = accepted_none a v v refl }
+unswept_made a es = search accepted_none
 
 -- The sweep of this second was made.
 pub made_before : {W : Type 0} (a : Journal W) (idle : Option ℕ) {last second : ℕ} {v : ServerValue}
@@ -274,8 +273,8 @@ pub number_at : {X : Type 0} (id : ℕ) (es : List (ℕ × X)) (i k : ℕ) (x : 
     → slice_get es i ≡ Some (k, x) → k ≡ id
 number_at {X} id es i k x there at =
     let passes = (position-Some (nat_eq id) (keys_of es) i k (sym there)).1 in
-    let key : get_or (keys_of es) i k ≡ k = get_or_from_slice_get (keys_of es) i k k (slice_get-map (λ (e : ℕ × X). e.0)
-    es i ∙ ap (λ (o : Option (ℕ × X)). option_map (λ e. e.0) o) at) in
+    let key : get_or (keys_of es) i k ≡ k = get_or_from_slice_get (keys_of es) i k k (slice_get-map (λ e. e.0)
+    es i ∙ ap (λ o. option_map (λ e. e.0) o) at) in
     sym (eqb-true id k (rw key at passes))
 
 -- A connection of the server has an entry.
@@ -341,7 +340,7 @@ module _ {W : Type 0} (f : ℕ × Peer W → Peer W) where
       → IfSome (slice_get es i) (λ e. now ≡ set_value_at es i (f e)) → now ≡ changed_on id es
   changed_found id es {now = now} {i = i} distinct there within set = elim (slice_get_cases es i).1 as (λ _. now ≡
       changed_on id es) [
-        | inl h ↦ let e : ℕ × Peer W = h.0 in
+        | inl h ↦ let e = h.0 in
             let same : e.0 ≡ id = number_at id es i e.0 e.1 there h.2 in
             rw h.2 at set ∙
             rw (← same) (changed_there e.0 es i e.1 distinct h.2)
@@ -351,9 +350,7 @@ module _ {W : Type 0} (f : ℕ × Peer W → Peer W) where
 -- The numbers stay where a connection was released.
 pub paired_released_on : {W : Type 0} (now id : ℕ) {v after : ServerValue} {es left : List (ℕ × Peer W)}
     → keys_of after.sessions ≡ keys_of v.sessions → left ≡ released_on now id es → ArePaired v es → ArePaired after left
-paired_released_on now id {es = es} keys is paired =
-    let same = ap keys_of is ∙ same_keys now id es in
-    record { keys = same ∙ paired.keys ∙ sym keys; distinct = rw same paired.distinct }
+paired_released_on now id {es = es} keys is paired = paired_same paired keys (ap keys_of is ∙ same_keys now id es)
   where
     same_keys : {W : Type 0} (now id : ℕ) (es : List (ℕ × Peer W)) → keys_of (released_on now id es) ≡ keys_of es
     same_keys now id [] = refl

@@ -13,7 +13,7 @@ use Rattle.coap_serve.specs.Prelude.{config_of, new_server}
 use Rattle.coap_serve.specs.Prelude.{AcceptedCall, Exchange, HasAccepted, IsAccepted, Answering, AnswersMore, AreSteps}
 use Rattle.coap_serve.specs.Prelude.{AreRequestedLater, AreCallsBetween, Continues, Following, FollowsMore, HasTurned}
 use Rattle.coap_serve.specs.Prelude.{History, Journal, calls_only, history_then, journal, AreSettled, DoorCall, IoFault}
-use Rattle.coap_serve.specs.Prelude.{IsMemory, IsMemoryOrTurns, Memory, Peer, ServerValue, SessionValue, ShowsMore}
+use Rattle.coap_serve.specs.Prelude.{IsMemory, IsMemoryOrTurns, Memory, Peer, ServerValue, ShowsMore}
 use Rattle.coap_serve.specs.Prelude.{AddsCalls, Views, Wait, door_only, open_refusal, server_ticked, EndsRun, HasRun}
 use Rattle.coap_serve.specs.Prelude.{Environment, HasSwept, IsBegun, IsCutRun, IsRun, IsRunStep, IsTurnFor}
 use Rattle.coap_serve.specs.Prelude.{KnownOfRun, Matches, closings, RunTrace, ServiceConfig, ServiceValue, Sweep, Times}
@@ -32,7 +32,7 @@ use Rattle.coap_serve.proofs.listener.ServingLemmas.{continued_then, door_known,
 pub same_time : {v : ServerValue} {now : ℕ} → AreSettled v.shared v.sessions → now ≡ v.shared.now → v ≡ moved_to v now
 same_time {v = v} settled is =
     let same : v ≡ server_ticked v v.shared.now =
-    sym (ap (λ (es : List (ℕ × SessionValue)). record v { sessions = es }) (all_settled_stay v.shared v.sessions
+    sym (ap (λ es. record v { sessions = es }) (all_settled_stay v.shared v.sessions
     settled)) in
     rw (is, le-leb v.shared.now v.shared.now (omega arith)) same
 
@@ -97,55 +97,29 @@ sweep_ran idle last second {v = v} es swept = record {
 requested_so : {v after : ServerValue} {most : ℕ} {is_full : Bool} {monitor : List AcceptedCall → Type 0}
     {asks told : List Exchange → Type 0} (given : AreRequestedLater v most is_full after monitor asks)
     → told given.exchanges → AreRequestedLater v most is_full after (λ all. given.events ≡ all) told
-requested_so given exchanged = record {
-  number = given.number;
-  events = given.events;
-  exchanges = given.exchanges;
-  given = given.given;
-  within = given.within;
-  over = given.over;
-  shows = given.shows;
-  reports = refl;
-  exchanged = exchanged;
-}
+requested_so given exchanged = search given
 
 -- Later responses were given.
 pub later_ran : {W : Type 0} {a b : Following} {p q : Answering} {d : Option (List (DoorCall W))} {v w : ServerValue}
     {is_full : Bool} → AreRequestedLater v 256 is_full w (FollowsMore a b) (AnswersMore p q)
     → HasRun (Continues (journal a p d) (journal b q d)) v w
-later_ran {d = d} {w = w} {is_full = is_full} given = record {
+later_ran {w = w} {is_full = is_full} given = record {
   history = record { events = given.events; exchanges = given.exchanges; calls = [] };
   made = one_step (LaterGiven w _ is_full (requested_so given refl) refl);
-  accepted = record {
-    shows = given.shows;
-    known = record { calls = given.reports; exchanged = given.exchanged; called = no_calls d };
-  };
+  accepted = search no_calls;
 }
 
 -- A turn was made, in full or in part.
 pub turn_ran : {W : Type 0} {Known : History W → Type 0} {v w : ServerValue} → HasTurned Known v w → HasRun Known v w
-turn_ran {w = w} turned = record {
-  history = turned.history;
-  made = one_step (TurnMade w turned.history turned.made);
-  accepted = turned.accepted;
-}
+turn_ran turned = search (turned, one_step, TurnMade)
 
 -- The turn ended.
 pub made_to_end : {W : Type 0} {Made : History W → Type 0} {a : Journal W} {b c : Following} {p : Answering}
     {d : Option (List (DoorCall W))} {v w : ServerValue} → HasAccepted Made (Continues a (journal b p d)) v w
     → FollowsMore b c [] → HasAccepted Made (Continues a (journal c p d)) v w
-made_to_end {a = a} {b = b} {c = c} one ends = record {
-  history = one.history;
-  made = one.made;
-  accepted = record {
-    shows = one.accepted.shows;
-    known = record {
-      calls = rw append-nil at (followed_then a.calls b c one.history.events [] one.accepted.known.calls ends);
-      exchanged = one.accepted.known.exchanged;
-      called = one.accepted.known.called;
-    };
-  };
-}
+made_to_end {a = a} {b = b} {c = c} one ends =
+    let calls = rw append-nil at (followed_then a.calls b c one.history.events [] one.accepted.known.calls ends) in
+    search (one, calls)
 
 -- ---- calls of the listener
 
@@ -160,7 +134,7 @@ wait_ran {W = W} {v = v} turns wait opens waited = record {
         | true ↦ one_step (DoorWaited wait opens)
         | false ↦ NoStep
       ];
-  accepted = record { shows = shows_same v v refl; known = door_known waited };
+  accepted = search (shows_same, door_known);
 }
 
 closing_steps : {W : Type 0} (v : ServerValue) (es : List (ℕ × Peer W))
@@ -174,7 +148,7 @@ pub closed_ran : {W : Type 0} {a : Following} {p : Answering} {d e : Option (Lis
 closed_ran {v = v} es closed = record {
   history = door_only (closings es);
   made = closing_steps v es;
-  accepted = record { shows = shows_same v v refl; known = door_known closed };
+  accepted = search (shows_same, door_known);
 }
 
 -- ---- traces one after the other
@@ -239,10 +213,8 @@ parts_begin {W = W} {times = times} {s = s} one other {e = e} swept moved ticked
         uncalled = refl;
         all = refl;
       };
-      accepted = accepted_then swept.accepted (rw (← swept.server) (accepted_then (calls_accepted ticked) (record {
-        shows = given.shows;
-        known = record { calls = given.reports; exchanged = given.exchanged; called = no_calls e };
-      })));
+      accepted =
+          accepted_then swept.accepted (rw (← swept.server) (accepted_then (calls_accepted ticked) (search no_calls)));
     }
 
 -- ---- whole turns
@@ -252,20 +224,7 @@ pub turn_allowed : {A W : Type 0} (follows : A → Answering) (rests : A → Typ
     (views : Views W) (one : A) {times : Times} {s after : ServiceValue W} {wait : Wait} {h : History W}
     → IsTurnFor (environment follows rests (waits one) views) times s after wait h
     → IsTurnFor (environment follows rests (some_waits waits) views) times s after wait h
-turn_allowed follows rests waits views one turn = record {
-  start = turn.start;
-  begun = turn.begun;
-  limit = turn.limit;
-  allowed = (one, turn.allowed);
-  next = turn.next;
-  visits = turn.visits;
-  turn = turn.turn;
-  shows = turn.shows;
-  all = turn.all;
-  waits = turn.waits;
-  second = turn.second;
-  idle = turn.idle;
-}
+turn_allowed follows rests waits views one turn = search turn
 
 -- ---- the error of a run
 
@@ -297,39 +256,11 @@ module _ {A W : Type 0} (E : Environment A W) (c : ServiceConfig) (s t : KnownOf
 
     ends_too : (last : ServerValue) (fault : IoFault) → EndsRun E c s last fault → EndsRun E c t last fault
     ends_too last Memory (inl none) = inl (matches_too no_trace none.0, none.1)
-    ends_too last Memory (inr cut) = inr (record {
-      front = cut.front;
-      service = cut.service;
-      wait = cut.wait;
-      made = cut.made;
-      few = cut.few;
-      times = cut.times;
-      history = cut.history;
-      cut = cut.cut;
-      left = cut.left;
-      paired = cut.paired;
-      matches = matches_too _ cut.matches;
-    })
-    ends_too last Turns whole = record {
-      whole = whole.whole;
-      service = whole.service;
-      wait = whole.wait;
-      made = whole.made;
-      counted = whole.counted;
-      matches = matches_too _ whole.matches;
-      ended = whole.ended;
-    }
+    ends_too last Memory (inr cut) = inr (search (cut, matches_too))
+    ends_too last Turns whole = search (whole, matches_too)
     ends_too last Read never = never
     ends_too last Write never = never
 
     pub run_too : {T : Type 0} (r : Result T IoFault) → IsRun E c s r → IsRun E c t r
     run_too (Ok x) never = never
-    run_too (Err fault) run = record {
-      last = run.last;
-      ran = record {
-        history = run.ran.history;
-        made = run.ran.made;
-        accepted = record { shows = run.ran.accepted.shows; known = history run.ran.history run.ran.accepted.known };
-      };
-      ends = ends_too run.last fault run.ends;
-    }
+    run_too (Err fault) run = search (run, ends_too)

@@ -4,7 +4,8 @@ use Rattle.std.proofs.Common.{length, drop, Option, Some, None, IfSome, append_a
 use Rattle.std.proofs.Common.{inr, ◌≤◌, ◌==◌, Bool, add-one, is_none}
 use Rattle.std.proofs.lemmas.Bool.{and_parts, ltb-true}
 use Rattle.std.proofs.lemmas.Bool.Decides.{nat_tests}
-use Rattle.std.proofs.lemmas.List.{append-nil, length-drop, length-take}
+use Rattle.std.proofs.lemmas.Bool.{eqb-true}
+use Rattle.std.proofs.lemmas.List.{append-nil, length-drop, length-take, nil_from_length}
 use Rattle.std.proofs.Math.Bool.{or_assoc}
 use Rattle.coap_serve.specs.Prelude.{ShowsMore, FollowsMore, Following, opening, ServerValue, count_taken, server_taken}
 use Rattle.coap_serve.specs.Prelude.{ConnectionWork, IsReasonFor, SessionValue, session_work, AcceptedCall, Took, Got}
@@ -46,43 +47,35 @@ pub then_assoc : {W : Type 0} (h k l : History W)
 then_assoc h k l = rw (append_assoc, append_assoc, append_assoc) refl
 
 pub continued_none : {W : Type 0} (a : Journal W) → Continues a a no_history
-continued_none a =
-    record { calls = followed_none a.calls; exchanged = answered_none a.exchanges; called = no_calls a.door }
+continued_none a = search (followed_none, answered_none, no_calls)
 
 pub continued_then : {W : Type 0} {a b c : Journal W} (h more : History W) → Continues a b h → Continues b c more
     → Continues a c (history_then h more)
-continued_then {a = a} {b = b} {c = c} h more one two = record {
-  calls = followed_then a.calls b.calls c.calls h.events more.events one.calls two.calls;
-  exchanged = answered_then a.exchanges b.exchanges c.exchanges h.exchanges more.exchanges one.exchanged two.exchanged;
-  called = calls_then a.door b.door c.door h.calls more.calls one.called two.called;
-}
+continued_then h more one two = search (followed_then, answered_then, calls_then)
 
 pub accepted_none : {W : Type 0} (a : Journal W) (v after : ServerValue) → after ≡ v
     → IsAccepted (Continues a a) v after no_history
-accepted_none a v after is = record { shows = shows_same v after is; known = continued_none a }
+accepted_none a v after is = search (shows_same, continued_none)
 
 pub accepted_then : {W : Type 0} {a b c : Journal W} {u v w : ServerValue} {h more : History W}
     → IsAccepted (Continues a b) u v h → IsAccepted (Continues b c) v w more
     → IsAccepted (Continues a c) u w (history_then h more)
-accepted_then {u = u} {v = v} {w = w} {h = h} {more = more} one two = record {
-  shows = shows_then u v w h.events more.events one.shows two.shows;
-  known = continued_then h more one.known two.known;
-}
+accepted_then one two = search (shows_then, continued_then)
 
 -- ---- calls of the server or the listener alone
 
 module _ {W : Type 0} {a b : Following} {p : Answering} {d : Option (List (DoorCall W))} where
   pub calls_known : {events : List AcceptedCall} → FollowsMore a b events
       → Continues (journal a p d) (journal b p d) (calls_only events)
-  calls_known follows = record { calls = follows; exchanged = answered_none p; called = no_calls d }
+  calls_known follows = search (answered_none, no_calls)
 
   pub calls_accepted : {v after : ServerValue} {events : List AcceptedCall} → AreCallsBetween a b v after events
       → IsAccepted (Continues (journal a p d) (journal b p d)) v after (calls_only events)
-  calls_accepted made = record { shows = made.shows; known = calls_known made.follows }
+  calls_accepted made = search calls_known
 
 pub door_known : {W : Type 0} {a : Following} {p : Answering} {d e : Option (List (DoorCall W))}
     {calls : List (DoorCall W)} → AddsCalls d e calls → Continues (journal a p d) (journal a p e) (door_only calls)
-door_known {a = a} {p = p} called = record { calls = followed_none a; exchanged = answered_none p; called = called }
+door_known called = search (followed_none, answered_none)
 
 module _ {W : Type 0} {a b : Following} {p q : Answering} {d e : Option (List (DoorCall W))} {calls : List (DoorCall W)}
     (called : AddsCalls d e calls) where
@@ -92,20 +85,18 @@ module _ {W : Type 0} {a b : Following} {p q : Answering} {d e : Option (List (D
       → IsAccepted (Continues (journal a p d) (journal b q e)) v after h
   accepted_called {h = h} one =
       let is : calls ≡ h.calls = cc one.known.called in
-      record {
-        shows = one.shows;
-        known = record { calls = one.known.calls; exchanged = one.known.exchanged; called = rw is at called };
-      }
+      let called = rw is at called in
+      search called
 
   pub made_called : {Made : History W → Type 0} {v after : ServerValue}
       → HasAccepted Made (Continues (journal a p (Some [])) (journal b q (Some calls))) v after
       → HasAccepted Made (Continues (journal a p d) (journal b q e)) v after
-  made_called one = record { history = one.history; made = one.made; accepted = accepted_called one.accepted }
+  made_called one = search accepted_called
 
   pub swept_called : {s : Sweep W} {v after : ServerValue}
       → HasSwept (Continues (journal a p (Some [])) (journal b q (Some calls))) s v after
       → HasSwept (Continues (journal a p d) (journal b q e)) s v after
-  swept_called one = record { server = one.server; accepted = accepted_called one.accepted }
+  swept_called one = search accepted_called
 
 -- ---- steps one after the other
 
@@ -150,7 +141,7 @@ dropped_served e one = record {
 -- ---- reads and writes
 
 pub none_called : {a : Following} {v after : ServerValue} → after ≡ v → AreCallsBetween a a v after []
-none_called {a = a} {v = v} {after = after} is = record { shows = shows_same v after is; follows = followed_none a }
+none_called is = search (shows_same, followed_none)
 
 -- A read that did not find the end.
 pub read_called : {a : Following} {v after : ServerValue} (id : ℕ) (got : Got) → got ≢ End → after ≡ v
@@ -211,8 +202,8 @@ served_moved v id bytes [] made = refl
 served_moved v id bytes (response ∷ responses) made =
     let f = (served v id bytes responses).fed in
     let more = ltb-true f.count (length bytes) (and_parts (nat_lt f.count (length bytes)) (not f.done) made.0).0 in
-    let left : List ℕ = drop f.count bytes in
-    let k : ℕ = count_taken f.server id left in
+    let left = drop f.count bytes in
+    let k = count_taken f.server id left in
     moved_then (served v id bytes responses).events
     (Took id (take k left) ∷ (ask_result f.server id left response).events)
     ∙ rw (
@@ -228,6 +219,11 @@ served_moved v id bytes (response ∷ responses) made =
 pub rest_kept : (stop : Option Reason) {left rest : List ℕ} → is_some stop ≡ false → left ≡ rest
     → left ≡ kept_unless stop rest
 rest_kept stop going is = grind arith
+
+pub none_left : (stop : Option Reason) {left rest : List ℕ} → (length left == 0) ≡ true → left ≡ rest
+    → left ≡ kept_unless stop rest
+none_left stop {left = left} empty is =
+    let none = nil_from_length left (eqb-true (length left) 0 empty) in grind (arith, none)
 
 pub none_kept : (stop : Option Reason) {left : List ℕ} (rest : List ℕ) → is_some stop ≡ true → left ≡ []
     → left ≡ kept_unless stop rest
@@ -246,17 +242,7 @@ served_so : {v after : ServerValue} {id count : ℕ} {bytes : List ℕ} {monitor
     {asks told : List Exchange → Type 0} (part : IsServedWith v id bytes count after monitor asks)
     → told (served v id bytes part.responses).exchanges
     → IsServedWith v id bytes count after (λ all. (served v id bytes part.responses).events ≡ all) told
-served_so part exchanged = record {
-  responses = part.responses;
-  made = part.made;
-  over = part.over;
-  nobody = part.nobody;
-  counted = part.counted;
-  server = part.server;
-  shows = part.shows;
-  reports = refl;
-  exchanged = exchanged;
-}
+served_so part exchanged = search part
 
 pub taken_in_part : {A W : Type 0} (follows : A → Answering) (one other : A) (a b : Following) {v after : ServerValue}
     (id count : ℕ) (bytes : List ℕ) {left : List ℕ} {d : Option (List (DoorCall W))}
@@ -271,10 +257,7 @@ taken_in_part follows one other a b {v = v} id count bytes {d = d} part rest = r
     rest = rest;
     moved = rw part.counted (served_moved v id bytes part.responses part.made);
   };
-  accepted = record {
-    shows = part.shows;
-    known = record { calls = part.reports; exchanged = part.exchanged; called = no_calls d };
-  };
+  accepted = search no_calls;
 }
 
 module _ {W : Type 0} {a b : Following} {p q : Answering} {d : Option (List (DoorCall W))} {v after : ServerValue} where
@@ -289,10 +272,7 @@ module _ {W : Type 0} {a b : Following} {p q : Answering} {d : Option (List (Doo
       how = inl (count, served_so part refl);
       uncalled = refl;
     }));
-    accepted = record {
-      shows = part.shows;
-      known = record { calls = part.reports; exchanged = part.exchanged; called = no_calls d };
-    };
+    accepted = search no_calls;
   }
 
   pub with_part_served : (id : ℕ) (bytes : List ℕ) → IsPartlyServed v id bytes after (FollowsMore a b) (AnswersMore p q)
@@ -308,22 +288,10 @@ module _ {W : Type 0} {a b : Following} {p q : Answering} {d : Option (List (Doo
         made = one_step (BytesTaken after _ (record {
           id = id;
           bytes = bytes;
-          how = inr (record {
-            responses = part.responses;
-            made = part.made;
-            going = part.going;
-            count = part.count;
-            refused = part.refused;
-            shows = part.shows;
-            reports = refl;
-            exchanged = refl;
-          });
+          how = inr (search part);
           uncalled = refl;
         }));
-        accepted = record {
-          shows = part.shows;
-          known = record { calls = part.reports; exchanged = part.exchanged; called = no_calls d };
-        };
+        accepted = search no_calls;
       }
 
 -- ---- a turn
@@ -333,10 +301,7 @@ module _ {W : Type 0} {a b : Following} {d e : Option (List (DoorCall W))} {v af
   pub opening_known : {p : Answering} (handed : Option W)
       → IsAccepted (λ h. FollowsMore a b h.events × AddsCalls d e h.calls) v after (opening v handed)
       → IsAccepted (Continues (journal a p d) (journal b p e)) v after (opening v handed)
-  opening_known {p = p} handed one = record {
-    shows = one.shows;
-    known = record { calls = one.known.0; exchanged = answered_none p; called = one.known.1 };
-  }
+  opening_known handed one = search answered_none
 
   -- An allocation failed for a wire, and the listener got it back.
   pub not_turned : {p : Answering} (wire : W) → after ≡ v → b ≡ a → is_none (open_refusal v) ≡ true
@@ -352,7 +317,7 @@ module _ {W : Type 0} {a b : Following} {d e : Option (List (DoorCall W))} {v af
 pub none_opened : {W : Type 0} (a : Following) (d e : Option (List (DoorCall W))) {v : ServerValue}
     → AddsCalls d e (opening {W = W} v None).calls
     → IsAccepted (λ h. FollowsMore a a h.events × AddsCalls d e h.calls) v v (opening v None)
-none_opened a d e {v = v} called = record { shows = shows_same v v refl; known = (followed_none a, called) }
+none_opened a d e called = search (shows_same, followed_none)
 
 opened_so : {W : Type 0} (second : ℕ) (handed : Option W) (s after : LoopState W) → AreOpened second handed s after
     → after.server ≡ opened_for s.server handed

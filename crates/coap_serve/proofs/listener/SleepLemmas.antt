@@ -1,6 +1,6 @@
 -- Looks at connections: whether something can be done on them, and how long the listener may wait. The connections of a
 -- server and their transport sides, and those that sleep.
-use Rattle.std.proofs.Common.{◌≡◌, ◌≢◌, ℕ, zero, suc, ◌+◌, ◌<◌, ◌≤◌, Bool, true, false, List, ◌∷◌, [], ◌++◌, length}
+use Rattle.std.proofs.Common.{◌≡◌, ◌≢◌, ℕ, suc, ◌+◌, ◌<◌, ◌≤◌, Bool, true, false, List, ◌∷◌, [], ◌++◌, length}
 use Rattle.std.proofs.Common.{map, nat_eq, Option, Some, None, IfSome, OnOk, OnErr, Result, Ok, Err, refl, sym, ap, ◌∙◌}
 use Rattle.std.proofs.Common.{inl, inr, arith, remove, slice_get, ◌||◌, is_some, drop, subst, ◌&&◌}
 use Rattle.std.specs.List.{position_or_len}
@@ -12,7 +12,8 @@ use Rattle.std.proofs.lemmas.Map.Entries.{length-keys_of}
 use Rattle.std.proofs.lemmas.Option.{slice_get-map, slice_get_within}
 use Rattle.indexmap.proofs.CallerLemmas.{keys-shift_remove_entry}
 use Rattle.indexmap.proofs.SetLemmas.{map-remove}
-use Rattle.coap_model.proofs.OptionLemmas.{one_made, there_is_none}
+use Rattle.coap_model.proofs.OptionLemmas.{one_made, there_at, there_is_none}
+use Rattle.coap_model.proofs.world.FateLists.{still_at}
 use Rattle.coap_serve.specs.Prelude.{AreAsleep, ArePaired, AreSettled, CanGoOn, IsDistinct, IsOutside, KeepsBeside}
 use Rattle.coap_serve.specs.Prelude.{LiesAt, MaySleep, Peer, PeerInterest, PeerStatus, ServerValue, SleepOn, bit_of}
 use Rattle.coap_serve.specs.Prelude.{insert_entry, keys_of, work_of, peer_status, server_dropped, server_opened}
@@ -23,7 +24,7 @@ use Rattle.coap_serve.specs.declared.door.awake.Awake.{Awake}
 use Rattle.coap_server_engine.proofs.values.ServerLemmas.{lies_by_key, lies_still}
 use Rattle.coap_server_engine.proofs.values.WorkLemmas.{dropped_keys, opened_keeps, opened_keys}
 use Rattle.coap_serve.proofs.listener.EntryLemmas.{each_written, keys_written, set_there, value_at, carried_on}
-use Rattle.coap_serve.proofs.listener.EntryLemmas.{next_first, some_at_index}
+use Rattle.coap_serve.proofs.listener.EntryLemmas.{next_first}
 
 -- ---- one connection
 
@@ -37,13 +38,9 @@ an_answer false recorded = (false, refl)
 can_with : (e : PeerStatus) (reads : Bool) → IsReadiness e.interest.read e.readable reads
     → CanGoOn e (e.interest.visit || reads
     || (an_answer e.interest.write e.writable).0)
-can_with e reads requested = let writes = an_answer e.interest.write e.writable in record {
-  reads = reads;
-  writes = writes.0;
-  read = requested;
-  write = writes.1;
-  is = refl;
-}
+can_with e reads requested =
+    let writes = an_answer e.interest.write e.writable in
+    record { reads = reads; writes = writes.0; read = requested; write = writes.1; is = refl }
 
 -- The connection is ready: it must be visited whatever its wire does, or its wire must be read and may be.
 pub can_go_on_so : (e : PeerStatus) (reads : Bool) {result : Bool} → IsReadiness e.interest.read e.readable reads
@@ -66,14 +63,13 @@ calm_from e can =
     rw (
       reads.0,
       known_readiness e.interest.read e.readable can.read reads.1,
-      known_readiness e.interest.write e.writable can.write
-          writes.1,
+      known_readiness e.interest.write e.writable can.write writes.1,
     ) refl
 
 pub idle_from : {e : PeerStatus} → MaySleep e → CanGoOn e false
 idle_from {e = e} sleeps = record {
-  reads = e.interest.read && known e.readable;
-  writes = e.interest.write && known e.writable;
+  reads = _;
+  writes = _;
   read = readiness_known e.interest.read e.readable;
   write = readiness_known e.interest.write e.writable;
   is = sym sleeps.calm;
@@ -104,8 +100,7 @@ one_idle {all = all} at {e = e} there calm is idle =
     let first = next_first all at there in
     record {
       any = λ ready can. idle.any ready (rw first (false, ready, calm, can, refl));
-      least = rw is
-          (rw first at idle.least);
+      least = rw is (rw first at idle.least);
     }
 
 sooner_never : {due : Option ℕ} → due ≡ sooner due None
@@ -118,7 +113,7 @@ pub sleepers_idle : {all : List PeerStatus} (at to : ℕ) {due : Option ℕ} →
 sleepers_idle {all = all} at to {due = due} on within sleep idle =
     carried_on (λ k. IsIdleTo all k due) at to on idle
     (λ i after below before.
-    (let there = some_at_index all i (omega (arith, below, within)) in
+    (let there = there_at all i (omega (arith, below, within)) in
     let sleeps = sleep i there.0 there.1 after below in
     one_idle i {due = due} there.1 (idle_from sleeps) (rw sleeps.never sooner_never) before))
 
@@ -157,15 +152,17 @@ module _ {W : Type 0} {v : ServerValue} {es : List (ℕ × Peer W)} (paired : Ar
     at,
   ) refl)
 
+  pub paired_same : {after : ServerValue} {now : List (ℕ × Peer W)} → keys_of after.sessions ≡ keys_of v.sessions
+      → keys_of now ≡ keys_of es → ArePaired after now
+  paired_same keys same = record { keys = same ∙ paired.keys ∙ sym keys; distinct = rw same paired.distinct }
+
   pub paired_on : {after : ServerValue} → keys_of after.sessions ≡ keys_of v.sessions → ArePaired after es
-  paired_on keys = record { keys = paired.keys ∙ sym keys; distinct = paired.distinct }
+  paired_on keys = paired_same keys refl
 
   -- One entry was written.
   pub paired_written : {after : ServerValue} {now : List (ℕ × Peer W)} (at : ℕ) (p : Peer W) → keys_of after.sessions ≡
       keys_of v.sessions → now ≡ set_value_at es at p → ArePaired after now
-  paired_written at p keys is =
-      let same = ap keys_of is ∙ keys_written es at p in
-      record { keys = same ∙ paired.keys ∙ sym keys; distinct = rw same paired.distinct }
+  paired_written at p keys is = paired_same keys (ap keys_of is ∙ keys_written es at p)
 
   -- A connection was dropped.
   pub paired_without : {after : ServerValue} {now : List (ℕ × Peer W)} (id i : ℕ) → AreSettled v.shared v.sessions
@@ -230,11 +227,7 @@ pub sleep_joined : {a b : Awake} {v after : ServerValue} {words : List ℕ} → 
     → ((i : ℕ) → IsOutside b.set.words i → IsOutside a.set.words i × IsOutside words i) → SleepOn a b v after
 sleep_joined keeps outside = record {
   keys = keeps.keys;
-  each = λ i id lies out. (
-    (outside i out).0,
-    keeps.work i id
-        lies (outside i out).1,
-  );
+  each = λ i id lies out. ((outside i out).0, keeps.work i id lies (outside i out).1);
 }
 
 -- All connections woke.
@@ -242,11 +235,7 @@ pub sleep_none : {a b : Awake} {v after : ServerValue} (id : ℕ) → KeepsOther
     → bit_of b.set.words i ≡ 1) → SleepOn a b v after
 sleep_none id keeps all = record {
   keys = keeps.keys;
-  each = λ i other lies out. absurd (omega (
-    arith,
-    all i out.within,
-    out.bit,
-  ));
+  each = λ i other lies out. absurd (omega (arith, all i out.within, out.bit));
 }
 
 -- The connection at an index woke, and the others have the same work left.
@@ -299,11 +288,6 @@ looked_sleeps b at e ready can awake outside =
           record { calm = calm_from e (rw parts.0 at can); never = there_is_none e.interest.due parts.1 }
     ] refl
 
-early : {X : Type 0} (xs ys : List X) (i : ℕ) → i < length xs → slice_get (xs ++ ys) i ≡ slice_get xs i
-early [] ys i within = absurd (omega (arith, within))
-early (x ∷ xs) ys zero within = refl
-early (x ∷ xs) ys (suc i) within = early xs ys i (omega (arith, within))
-
 -- A fact on the indices up to one index, of this one, and on those after it.
 pub each_on : {P : ℕ → Type 0} {from to : ℕ} (at : ℕ) → ((i : ℕ) → from ≤ i → i < at → P i) → P at
     → ((i : ℕ) → at + 1 ≤ i → i < to → P i) → (i : ℕ) → from ≤ i → i < to → P i
@@ -327,12 +311,7 @@ module _ {W : Type 0} (readable writable : W → Option Bool) where
       × CanGoOn (peer_status readable writable v e) ready
   looked_at v es at {p = p} {interest = interest} {ready = ready} is there can =
       let here = value_at es at p there in
-      let so = rw here.1 at is in (
-        here.0,
-        here.1,
-        so,
-        rw (← so, here.2) can,
-      )
+      let so = rw here.1 at is in (here.0, here.1, so, rw (← so, here.2) can)
 
   -- ---- an opened connection
 
@@ -366,8 +345,11 @@ module _ {W : Type 0} (readable writable : W → Option Bool) where
                 let apart : e.0 ≢ v.ids + 1 = λ (same : e.0 ≡ v.ids + 1).
                 let again : i ≡ length v.sessions = cc ((lies_there paired_with_one i here).index, lies.index) in
                 omega (arith, again, early_on, as_many) in
-                still_sleeps v after e (rw opened (opened_keeps v settled e.0 apart)) (asleep.each i e
-                (sym (early es ((id, p) ∷ []) i early_on) ∙ place) (kept i outside))
+                let was = there_at es i early_on in
+                let before : slice_get es i ≡ Some e =
+                cc (was.1, place, still_at es ((id, p) ∷ []) i was.0 was.1) in
+                still_sleeps v after e (rw opened (opened_keeps v settled e.0 apart))
+                (asleep.each i e before (kept i outside))
             | inr late ↦
                 let last : i ≡ count = omega (
                   arith,

@@ -10,12 +10,13 @@ use Rattle.coap_serve.specs.Prelude.{IsAfterOutput, AreAfterOutput, waiting_of, 
 use Rattle.coap_serve.specs.Prelude.{HasReported, HasReportedStop, IsAtBytes, SessionValue, session_of, session_written}
 use Rattle.coap_serve.specs.Prelude.{session_becomes, settled_entry, server_written, waiting_in, waiting_at, more_in}
 use Rattle.coap_serve.specs.Prelude.{more_at, flush_turns, IsFlushed, Connection, waiting_on, side_written, settled}
-use Rattle.coap_serve.specs.Prelude.{World, stream_on, steps_by, spelled_on, Shows, session_shown, stream_of, more_of}
-use Rattle.coap_serve.specs.Prelude.{written_times, flushed, world_for, Outcome, IsReportedFlush, FollowsMore}
+use Rattle.coap_serve.specs.Prelude.{stream_on, steps_by, spelled_on, Shows, session_shown, stream_of, more_of}
+use Rattle.coap_serve.specs.Prelude.{written_times, flushed, world_for, IsReportedFlush, FollowsMore}
 use Rattle.coap_serve.specs.Prelude.{Following, calls_of_flush}
 use Rattle.coap_model.proofs.world.EntryLemmas.{all_append}
 use Rattle.coap_model.proofs.world.StepLaws.{taken_then, taken_here, world_step, spelled_same}
 use Rattle.std.proofs.lemmas.Bool.Decides.{nat_tests}
+use Rattle.coap_model.specs.world.Events.{taken_in}
 use Rattle.coap_model.specs.world.World as world
 use Rattle.coap_model.proofs.world.EndOfInputLaws.{world_hears}
 use Rattle.coap_model.proofs.streams.FlushLaws.{flushed_so, times_further, flush_leaves}
@@ -55,29 +56,29 @@ unfolding taken_on written_on AreAfterOutput
 transfers_opened c id =
     record { calls = []; opened = refl; each = tt; bytes = refl; count = refl; after_output = (tt, tt) }
 
--- No byte is queued before the connection accepts these bytes.
-pub transfers_taken : (c : ConfigValues) (id : ℕ) {taken : List ℕ} (bytes : List ℕ) {written : ℕ}
-    (es : List AcceptedCall) → waiting_of (side_of id (world_after c es).sides) ≡ []
-    → AreTransfers c id taken written es → AreTransfers c id (taken ++ bytes) written (es ++ Took id bytes ∷ [])
-transfers_taken c id bytes es waits so_far = record {
-  calls = so_far.calls ++ Took id bytes ∷ [];
-  opened = ap (λ (fs : List AcceptedCall). fs ++ Took id bytes ∷ []) so_far.opened;
-  each = all_append (IsTransfer id) so_far.calls (Took id bytes ∷ []) so_far.each (refl, tt);
-  bytes = taken_then id es (Took id bytes) ∙ rw (so_far.bytes, taken_here id bytes) refl;
-  count = omega (arith, written_then id es (Took id bytes), so_far.count);
-  after_output = after_output_more c [] es (Took id bytes) so_far.after_output waits;
-}
+module _ (c : ConfigValues) (id : ℕ) {taken : List ℕ} {written : ℕ} (es : List AcceptedCall)
+    (so_far : AreTransfers c id taken written es) where
+  -- One more transfer.
+  transfers_then : (e : AcceptedCall) {more : List ℕ} {count : ℕ} → IsTransfer id e → IsAfterOutput c es e
+      → taken_in id e ≡ more → written_in id e ≡ count
+      → AreTransfers c id (taken ++ more) (written + count) (es ++ e ∷ [])
+  transfers_then e is after more_is count_is = record {
+    calls = so_far.calls ++ e ∷ [];
+    opened = ap (λ fs. fs ++ e ∷ []) so_far.opened;
+    each = all_append (IsTransfer id) so_far.calls (e ∷ []) so_far.each (is, tt);
+    bytes = taken_then id es e ∙ rw (so_far.bytes, more_is) refl;
+    count = omega (arith, written_then id es e, so_far.count, count_is);
+    after_output = after_output_more c [] es e so_far.after_output after;
+  }
 
-pub transfers_written : (c : ConfigValues) (id : ℕ) {taken : List ℕ} {written : ℕ} (n : ℕ) (es : List AcceptedCall)
-    → AreTransfers c id taken written es → AreTransfers c id taken (written + n) (es ++ Wrote id n ∷ [])
-transfers_written c id n es so_far = record {
-  calls = so_far.calls ++ Wrote id n ∷ [];
-  opened = ap (λ (fs : List AcceptedCall). fs ++ Wrote id n ∷ []) so_far.opened;
-  each = all_append (IsTransfer id) so_far.calls (Wrote id n ∷ []) so_far.each (refl, tt);
-  bytes = taken_then id es (Wrote id n) ∙ append-nil (taken_on id es) ∙ so_far.bytes;
-  count = omega (arith, written_then id es (Wrote id n), written_here id n, so_far.count);
-  after_output = after_output_more c [] es (Wrote id n) so_far.after_output tt;
-}
+  -- No byte is queued before the connection accepts these bytes.
+  pub transfers_taken : (bytes : List ℕ) → waiting_of (side_of id (world_after c es).sides) ≡ []
+      → AreTransfers c id (taken ++ bytes) written (es ++ Took id bytes ∷ [])
+  transfers_taken bytes waits =
+      rw add-zero at (transfers_then (Took id bytes) refl waits (taken_here id bytes) refl)
+
+  pub transfers_written : (n : ℕ) → AreTransfers c id taken (written + n) (es ++ Wrote id n ∷ [])
+  transfers_written n = rw append-nil at (transfers_then (Wrote id n) refl tt refl (written_here id n))
 
 -- ---- a server that has accepted some bytes
 
@@ -96,31 +97,25 @@ whole_transfers {bytes = bytes} of none =
 
 module _ {c : ConfigValues} {v : ServerValue} {bytes : List ℕ} {monitor : OnCalls}
     (is_at : IsAtBytes c v bytes monitor) where
-  pub running_reported : (outcome c bytes).stop ≡ None → HasReported c monitor bytes (length (stdio_output c bytes))
-  running_reported none = record {
+  -- The monitor received these transfers.
+  reported_so : {taken : List ℕ} {written : ℕ} → AreTransfers c (only_id c) taken written is_at.events
+      → HasReported c monitor taken written
+  reported_so transfers = record {
     server = v;
     config = is_at.config;
     events = is_at.events;
     shows = is_at.shows;
-    transfers = whole_transfers is_at.transfers none;
+    transfers = transfers;
     monitor_reports = is_at.reports;
   }
 
+  pub running_reported : (outcome c bytes).stop ≡ None → HasReported c monitor bytes (length (stdio_output c bytes))
+  running_reported none = reported_so (whole_transfers is_at.transfers none)
+
   pub stopped_reported : HasReportedStop c monitor bytes (length (stdio_output c bytes))
-  stopped_reported = record {
-    taken = is_at.transfers.taken;
-    later = is_at.transfers.later;
-    all = is_at.transfers.all;
-    same = is_at.transfers.same;
-    reported = record {
-      server = v;
-      config = is_at.config;
-      events = is_at.events;
-      shows = is_at.shows;
-      transfers = is_at.transfers.transfers;
-      monitor_reports = is_at.reports;
-    };
-  }
+  stopped_reported =
+      let of = is_at.transfers in
+      record { taken = of.taken; later = of.later; all = of.all; same = of.same; reported = reported_so of.transfers }
 
 -- ---- flushes
 
@@ -182,11 +177,11 @@ module _ {c : ConfigValues} {v : ServerValue} {id : ℕ} {s : Connection} (from 
         (text ++ waiting_at id now) (fs ++ Wrote id (length (waiting_at id now)) ∷ [])
     unfolding written_times steps_by
     turn_shown =
-        let w : World = world_after c fs in
-        let t : Connection = so_far.side in
-        let count : ℕ = length (waiting_at id now) in
-        let wrote : Connection = side_written t count in
-        let next : Connection = settled w.store w.now wrote in
+        let w = world_after c fs in
+        let t = so_far.side in
+        let count = length (waiting_at id now) in
+        let wrote = side_written t count in
+        let next = settled w.store w.now wrote in
         let next_step : world_after c (fs ++ Wrote id count ∷ []) ≡ world.step c.limits w (world.Written id count) =
         world_step c fs (Wrote id count) (world.Written id count) refl in
         record {
@@ -203,7 +198,7 @@ module _ {c : ConfigValues} {v : ServerValue} {id : ℕ} {s : Connection} (from 
           transfers = λ taken written before.
               subst (λ (n : ℕ). AreTransfers c id taken n (fs ++ Wrote id count ∷ []))
               (omega (arith, length-append text (waiting_at id now)))
-              (transfers_written c id count fs (so_far.transfers taken written before));
+              (transfers_written c id fs (so_far.transfers taken written before) count);
         }
 
   -- All iterations.
@@ -225,8 +220,8 @@ module _ {c : ConfigValues} {v : ServerValue} {id : ℕ} {s : Connection} (from 
   more_there : more_at id v ≡ more_of (Some s)
   more_there =
       ap more_in (side_there v es id s from.shows
-      (ap (λ (k : ConfigValues). side_of id (world_after k es).sides) from.config ∙ from.there))
-      ∙ ap (λ (n : ℕ). length s.history.pending + n) (length-map s.observers _)
+      (ap (λ k. side_of id (world_after k es).sides) from.config ∙ from.there))
+      ∙ ap (λ n. length s.history.pending + n) (length-map s.observers _)
 
   -- All iterations were made, or those after which no byte is queued.
   module _ (turns : ℕ) (within : turns ≤ suc (more_at id v))
@@ -234,12 +229,12 @@ module _ {c : ConfigValues} {v : ServerValue} {id : ℕ} {s : Connection} (from 
     whole : written_times c.limits id turns (world_after c es) ≡ flushed c.limits id (world_after c es)
     whole =
         let f = flushing turns in
-        let w : World = world_after c es in
+        let w = world_after c es in
         elim done [
           | inl none ↦
               times_further c.limits id turns (suc (more_of (Some s))) w f.side (world_hears c es)
               (rw (← f.world) f.there) (sym (waits_shown f) ∙ none) (omega (arith, within, more_there))
-          | inr all ↦ ap (λ (n : ℕ). written_times c.limits id n w) (all ∙ ap (λ (n : ℕ). suc n) more_there)
+          | inr all ↦ ap (λ n. written_times c.limits id n w) (all ∙ ap (λ n. suc n) more_there)
         ]
         ∙ sym (flushed_so c.limits id w s from.there)
 
@@ -310,7 +305,7 @@ module _ {c : ConfigValues} {v : ServerValue} {s : Connection} {bytes : List ℕ
         let all = world_for_written c bytes in
         let is_there : side_of id (world_for c bytes).sides ≡ Some f.side = rw (← ends) f.there in
         let none : waiting_on f.side ≡ [] = cc (is_there, all.there, all.waits) in
-        let said = ap (λ (o : Outcome). o.output) (outcome_there c bytes f.side is_there)
+        let said = ap (λ o. o.output) (outcome_there c bytes f.side is_there)
         ∙ sym (none_waits_all_written f.side none) ∙ f.said in
         let count : length (front_written s) + length (flush_turns turns id v).text ≡ length (stdio_output c bytes) =
         rw (said, length-append) refl in (

@@ -1,17 +1,17 @@
 -- A run, one turn after the other.
 use Rattle.std.proofs.Common.{◌≡◌, ◌≢◌, ℕ, ◌≤◌, List, [], ◌∷◌, ◌++◌, length, take, Ok, Err, refl, sym, ap, ◌∙◌, arith}
-use Rattle.std.proofs.Common.{subst, inr, ◌+◌, ◌<◌, Option, Some, None, Result, append_assoc, inl, Bool, true, false}
+use Rattle.std.proofs.Common.{subst, inr, ◌+◌, ◌<◌, Option, Some, None, Result, append_assoc, inl, true, false}
 use Rattle.std.proofs.lemmas.List.{length-take-le, append-nil, length-append}
 use Rattle.std.proofs.lemmas.List.Folds.{concat-append}
-use Rattle.coap_serve.specs.Prelude.{concat, AllByRecursion, Reason, end_reason, AreInRange, stop_of, Stream}
+use Rattle.coap_serve.specs.Prelude.{concat, AllByRecursion, Reason, end_reason, AreInRange, stop_of}
 use Rattle.coap_serve.specs.Prelude.{ConfigValues, IoFault, Read, Write, Memory, Turns, Report, Turn, FollowsMore}
 use Rattle.coap_serve.specs.Prelude.{Following, IsReportedFlush, IsCutFlush, HasReportedEnd, EndsReport, IsReportedRun}
 use Rattle.coap_serve.specs.Prelude.{ServerValue, session_of, new_server, server_opened, is_there, stop_on, DeviceTrace}
 use Rattle.coap_serve.specs.Prelude.{HasGiven, pieces_read, AddsBytes, only_id, outcome, stream_of, stdio_output}
 use Rattle.coap_serve.specs.Prelude.{IsRunningAt, IsWhole, Says, HasRead, IsTurn, AreNotEmpty, GoesOn, IsStdioRun}
 use Rattle.coap_serve.specs.Prelude.{AcceptedCall, Opened, steps_by, world_after, Ended, stream_on, Shows, is_cut}
-use Rattle.coap_serve.specs.Prelude.{new_side, Connection, side_ended, settled, World, side_of, step, is_read_fault}
-use Rattle.coap_serve.specs.Prelude.{LeavesNothing, LeavesNothingWaiting, HasReportedCut, IsAtBytes, Outcome}
+use Rattle.coap_serve.specs.Prelude.{new_side, side_ended, settled, side_of, step, is_read_fault}
+use Rattle.coap_serve.specs.Prelude.{LeavesNothing, LeavesNothingWaiting, HasReportedCut, IsAtBytes}
 use Rattle.coap_serve.specs.streams.StdioRun.{EndsRun}
 use Rattle.coap_serve.specs.streams.StdioProgress.{IsServed}
 use Rattle.coap_model.specs.world.World as world
@@ -135,15 +135,7 @@ out_of_turns so_far all = (
 passed_on : {c : ConfigValues} {v : ServerValue} {bytes : List ℕ} {monitor later : OnCalls}
     → ((calls : List AcceptedCall) → monitor calls → later calls) → IsAtBytes c v bytes monitor
     → IsAtBytes c v bytes later
-passed_on passed at = record {
-  config = at.config;
-  events = at.events;
-  shows = at.shows;
-  world = at.world;
-  spelled = at.spelled;
-  transfers = at.transfers;
-  reports = passed at.events at.reports;
-}
+passed_on passed at = search (at, passed)
 
 -- One more turn. `b` and `y` are the records of the devices before it; `d` and `z` are those after it. `earlier` states
 -- the calls that the monitor received before it, and `monitor` those after it.
@@ -205,7 +197,7 @@ module _ {c : ConfigValues} {id turns read messages : ℕ} {v : ServerValue} {a 
       elim did [
         | inl end ↦ absurd cc
         | inr did ↦ (
-            let piece : List ℕ = did.piece in
+            let piece = did.piece in
             let whole = did.served in
             record {
               pieces = longer piece;
@@ -259,17 +251,10 @@ module _ {c : ConfigValues} {id turns read messages : ℕ} {v : ServerValue} {a 
   run_ends_at_turn between passed t why lt did stops =
       elim did [
         | inl end ↦ (
-            let told = end.reported in
             ran_whole t why [] [] lt end.given (omega arith) end.written end.read
             (rw append-nil (omega (arith, end.messages))) (simp append-nil)
-            (rw (append-nil, so_far.goes.going) (refl, cc)) (rw (append-nil, so_far.goes.going) (record {
-              server = told.server;
-              config = told.config;
-              before = told.before;
-              transfers = told.transfers;
-              shows = told.shows;
-              monitor_reports = passed _ told.monitor_reports;
-            })))
+            (rw (append-nil, so_far.goes.going) (refl, cc))
+            (rw (append-nil, so_far.goes.going) (search (end.reported, passed))))
         | inr did ↦ (
             let over : (outcome c (bytes ++ did.piece)).stop ≡ Some why = sym did.reason ∙ stops in
             ran_whole t why did.piece did.served.text lt did.has.given did.has.few did.served.written did.read
@@ -321,7 +306,7 @@ module _ {c : ConfigValues} {id turns read messages : ℕ} {v : ServerValue} {a 
         last = did.last;
         later = did.later;
         all =
-            longer_bytes t.0 ∙ ap (λ (b : List ℕ). bytes ++ b) did.all
+            longer_bytes t.0 ∙ ap (λ b. bytes ++ b) did.all
             ∙ sym (append_assoc bytes did.front (did.last ∷ did.later));
         refused = did.refused;
         reported = rw (more_text did.text did.says) did.reported;
@@ -366,9 +351,9 @@ module _ {c : ConfigValues} {new v : ServerValue} {id : ℕ} (opens : Opens c ne
   opening_leads : LeadsTo c v (new_side c.limits) [] (FollowsMore a m)
   unfolding steps_by
   opening_leads =
-      let n : ℕ = only_id c in
+      let n = only_id c in
       let world_is = world_step c [] (Opened n) (world.Opened n) refl
-      ∙ ap (λ (w : World). step c.limits w (world.Opened n)) (world_first c) in
+      ∙ ap (λ w. step c.limits w (world.Opened n)) (world_first c) in
       record {
         from = record {
           config = rw (opens.v_is, opens.new_is) refl;
@@ -420,12 +405,12 @@ pub end_stops : {c : ConfigValues} {v v1 : ServerValue} {id : ℕ} {bytes : List
     → stop_on (session_of id v1.sessions) ≡ Some (end_reason (is_cut (stream_of c bytes).rest))
 unfolding steps_by side_ended
 end_stops {c = c} {v1 = v1} {bytes = bytes} goes config shows =
-    let n : ℕ = only_id c in
-    let es : List AcceptedCall = goes.is_at.events in
-    let w : World = world_after c es in
+    let n = only_id c in
+    let es = goes.is_at.events in
+    let w = world_after c es in
     let all = world_for_written c bytes in
-    let cut : Bool = is_cut (stream_on c.limits.max_message n es).rest in
-    let t : Connection = settled w.store w.now (side_ended all.side cut) in
+    let cut = is_cut (stream_on c.limits.max_message n es).rest in
+    let t = settled w.store w.now (side_ended all.side cut) in
     let there : side_of n w.sides ≡ Some all.side = rw goes.is_at.world all.there in
     let then : side_of n (world_after c (es ++ Ended n ∷ [])).sides ≡ Some t =
     rw (world_step c es (Ended n) (world.Ended n cut) refl) (ended_there c.limits w n cut all.side there) in
@@ -435,7 +420,7 @@ end_stops {c = c} {v1 = v1} {bytes = bytes} goes config shows =
     (ap stop_on (side_there v1 (es ++ Ended n ∷ []) n t (rw goes.number at (shows es goes.is_at.shows))
     (rw (config, goes.is_at.config) then))
     ∙ ap stop_of ((settled_handles_none w.store w.now (side_ended all.side cut)).stopped (end_reason cut) stopped).0
-    ∙ ap (λ (s : Stream × ℕ). Some (end_reason (is_cut s.0.rest))) (goes.is_at.spelled goes.going))
+    ∙ ap (λ s. Some (end_reason (is_cut s.0.rest))) (goes.is_at.spelled goes.going))
 
 -- The monitor received the end of input after all other calls.
 pub end_reported : {c : ConfigValues} {v v1 : ServerValue} {id : ℕ} {bytes : List ℕ} (a m k : Following)
@@ -475,7 +460,7 @@ module _ (c : ConfigValues) where
         side = all.side;
         there = all.there;
         none_waits = all.waits;
-        written = whole ∙ ap (λ (o : Outcome). o.output) (outcome_there c bytes all.side all.there);
+        written = whole ∙ ap (λ o. o.output) (outcome_there c bytes all.side all.there);
       }
 
   -- A run leaves no byte queued, unless a write failed.

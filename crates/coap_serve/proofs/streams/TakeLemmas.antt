@@ -1,15 +1,15 @@
 -- A call of `take` in a run and the flush after it: together they write the output defined for the bytes accepted.
-use Rattle.std.proofs.Common.{◌≡◌, ◌≢◌, ◌⊎◌, ℕ, suc, ◌+◌, ◌<◌, ◌≤◌, Bool, true, cond, List, [], ◌∷◌, ◌++◌, length, take}
+use Rattle.std.proofs.Common.{◌≡◌, ◌≢◌, ◌⊎◌, ℕ, suc, ◌+◌, ◌<◌, ◌≤◌, true, cond, List, [], ◌∷◌, ◌++◌, length, take}
 use Rattle.std.proofs.Common.{Option, Some, None, refl, sym, ap, subst, ◌∙◌, append_assoc, arith, inl, inr, drop, false}
 use Rattle.std.proofs.Common.{◌==◌}
 use Rattle.std.proofs.lemmas.Bool.{le-leb, eqb-true, eqb-false}
 use Rattle.std.proofs.lemmas.List.{append-nil, length-append, take-append-drop, nil_from_length}
-use Rattle.coap_serve.specs.Prelude.{Stream, split_on, LimitValues, ConfigValues, SessionValue, ServerValue, session_of}
+use Rattle.coap_serve.specs.Prelude.{split_on, ConfigValues, SessionValue, ServerValue, session_of}
 use Rattle.coap_serve.specs.Prelude.{server_taken, stop_on, RefusesPieceOn, waiting_at, more_at, flush_turns}
 use Rattle.coap_serve.specs.Prelude.{IsReportedFlush, IsCutFlush, Taken, AddsBytes, FollowsMore, Following, HasReported}
 use Rattle.coap_serve.specs.Prelude.{HasReportedCut, waiting_of, AreTransfers, only_id, stream_of, flushed}
-use Rattle.coap_serve.specs.Prelude.{flushed_after, world_for, Outcome, outcome_on, outcome, stdio_output, IsLastByte}
-use Rattle.coap_serve.specs.Prelude.{IsAtBytes, IsRunningAt, Says, IsWhole, IsCut, Connection, has_room, handles, World}
+use Rattle.coap_serve.specs.Prelude.{flushed_after, world_for, outcome_on, outcome, stdio_output, IsLastByte}
+use Rattle.coap_serve.specs.Prelude.{IsAtBytes, IsRunningAt, Says, IsWhole, IsCut, Connection, has_room, handles}
 use Rattle.coap_serve.specs.Prelude.{Step, side_of, step, AcceptedCall, Took, stream_on, beyond, steps_by, world_after}
 use Rattle.coap_serve.specs.Prelude.{takes, size_on, Shows, session_shown, handled_in, count_of, Reason, IsNotTaken}
 use Rattle.coap_serve.specs.Prelude.{IsRefused, ShowsRefused}
@@ -29,6 +29,7 @@ use Rattle.coap_model.proofs.streams.OutputLaws.{world_for_written, world_goes_o
 use Rattle.coap_model.proofs.streams.OutputLaws.{spelled_more, steps_taken, output_grows, stopped_output}
 use Rattle.coap_model.proofs.streams.OutputLaws.{stopped_outcome}
 use Rattle.coap_serve.proofs.streams.CallLemmas.{whole_transfers, transfers_taken, OnCalls, LeadsTo, turns_said}
+use Rattle.coap_serve.proofs.streams.CallLemmas.{FlushedRest}
 use Rattle.coap_serve.proofs.streams.CallLemmas.{turns_reported, flush_is_at}
 use Rattle.coap_server_engine.proofs.scripting.ShownLemmas.{config_stays}
 use Rattle.coap_server_engine.proofs.scripting.FollowLemmas.{followed_then}
@@ -37,59 +38,48 @@ use Rattle.coap_io.proofs.streams.DeviceLemmas.{bytes_none, bytes_then}
 
 -- ---- more iterations write more
 
-text_grows : (id : ℕ) (v : ServerValue) (few many : ℕ) → few ≤ many
-    → (more : List ℕ) × ((flush_turns many id v).text ≡ (flush_turns few id v).text ++ more)
+text_grows : (id : ℕ) (v : ServerValue) (few many : ℕ) → few ≤ many → (more : List ℕ) ×
+    ((flush_turns (suc many) id v).text
+    ≡ (flush_turns few id v).text ++ (waiting_at id (flush_turns few id v).server ++ more))
 unfolding flush_turns
 text_grows id v few many within =
-    from_there_on (λ n. (more : List ℕ) × ((flush_turns n id v).text ≡ (flush_turns few id v).text ++ more)) few many
-    within ([], sym (append-nil (flush_turns few id v).text))
-    (λ n before.
-    (let w : List ℕ = waiting_at id (flush_turns n id v).server in
-    (before.0 ++ w, ap (λ (b : List ℕ). b ++ w) before.1 ∙ append_assoc (flush_turns few id v).text before.0 w)))
+    let front : List ℕ = (flush_turns few id v).text in
+    let queued = waiting_at id (flush_turns few id v).server in
+    from_there_on (λ n. (more : List ℕ) × ((flush_turns (suc n) id v).text ≡ front ++ (queued ++ more))) few many within
+    ([], simp append-nil)
+    (λ n before. (before.0 ++ waiting_at id (flush_turns (suc n) id v).server, rw before.1 (simp append_assoc)))
 
-pub front_of_nothing : (xs ys : List ℕ) → xs ++ ys ≡ [] → xs ≡ []
+front_of_nothing : (xs ys : List ℕ) → xs ++ ys ≡ [] → xs ≡ []
 front_of_nothing [] ys none = refl
 front_of_nothing (x ∷ xs) ys none = absurd cc
 
 -- ---- a flush that ends in the world for some bytes
 
-further_text : (id : ℕ) (v : ServerValue) (turns : ℕ) → (flush_turns (suc turns) id v).text
-    ≡ (flush_turns turns id v).text ++ waiting_at id (flush_turns turns id v).server
-unfolding flush_turns
-further_text id v turns = refl
-
--- A write failed. The outlet recorded a proper prefix of the output that was still to be written for the bytes. The
--- monitor received the calls before this write.
-pub record CutLeads (c : ConfigValues) (s : Connection) (bytes : List ℕ) (x y : Option (List ℕ))
-    (monitor : OnCalls) : Type 0 where
+-- A write failed. After the prefix `front` of the output for the bytes, the outlet recorded a proper prefix of the
+-- rest. The monitor received the calls before this write.
+pub record CutOff (c : ConfigValues) (front bytes : List ℕ) (x y : Option (List ℕ)) (monitor : OnCalls) : Type 0 where
   pub part : List ℕ
   pub missing : List ℕ
   pub some : missing ≢ []
-  pub says : stdio_output c bytes ≡ front_written s ++ (part ++ missing)
+  pub says : stdio_output c bytes ≡ front ++ (part ++ missing)
   pub written : AddsBytes x y part
-  pub reported : HasReportedCut c monitor bytes (length (front_written s) + length part)
+  pub reported : HasReportedCut c monitor bytes (length front + length part)
 
 pub cut_flush_leads : {c : ConfigValues} {v : ServerValue} {s : Connection} {bytes : List ℕ} (a m n : Following)
     → LeadsTo c v s bytes (FollowsMore a m) → {x y : Option (List ℕ)}
-    → IsCutFlush (only_id c) v (AddsBytes x y) (FollowsMore m n) → CutLeads c s bytes x y (FollowsMore a n)
+    → IsCutFlush (only_id c) v (AddsBytes x y) (FollowsMore m n)
+    → CutOff c (front_written s) bytes x y (FollowsMore a n)
 cut_flush_leads {c = c} {v = v} {s = s} {bytes = bytes} a m n leads did =
-    let id : ℕ = only_id c in
+    let id = only_id c in
     let text : List ℕ = (flush_turns did.turns id v).text in
-    let more = text_grows id v (suc did.turns) (suc (more_at id v)) (omega (arith, did.within)) in
+    let more = text_grows id v did.turns (more_at id v) did.within in
     let reported =
     turns_reported leads did.turns (FollowsMore a n) (followed_then _ _ _ _ _ leads.reports did.reports) in
     record {
       part = text ++ did.part;
       missing = did.missing ++ more.0;
       some = λ none. did.some (front_of_nothing did.missing more.0 none);
-      says = cc (
-        turns_said leads,
-        more.1,
-        further_text id v did.turns,
-        did.all,
-        append_assoc text did.part did.missing,
-        append_assoc (text ++ did.part) did.missing more.0,
-      );
+      says = rw (turns_said leads, more.1, did.all) (simp append_assoc);
       written = did.written;
       reported = record {
         taken = bytes;
@@ -118,7 +108,7 @@ pub stop_reported : {c : ConfigValues} {v : ServerValue} {bytes : List ℕ} {mon
 stop_reported {c = c} {v = v} {bytes = bytes} is_at =
     let all = world_for_written c bytes in
     ap stop_on (side_there v is_at.events (only_id c) all.side is_at.shows (rw (is_at.config, is_at.world) all.there))
-    ∙ ap (λ (o : Outcome). o.stop) (sym (outcome_there c bytes all.side all.there))
+    ∙ ap (λ o. o.stop) (sym (outcome_there c bytes all.side all.there))
 
 -- ---- some bytes are accepted
 
@@ -134,7 +124,9 @@ pub record FrontRefused (c : ConfigValues) (bytes piece : List ℕ) (n : ℕ) : 
 -- A prefix of a chunk was processed, and the server returns whether it stops the connection.
 pub record FrontServed (c : ConfigValues) (id : ℕ) (bytes front : List ℕ) (after : ServerValue)
     (wrote : List ℕ → Type 0) (monitor : OnCalls) (messages : ℕ) : Type 0 where
-  pub whole : IsWhole c bytes front after wrote monitor messages
+  pub rest : FlushedRest c (bytes ++ front) (stdio_output c bytes) after wrote monitor
+  pub open rest use *
+  pub counted : (outcome c (bytes ++ front)).messages ≡ (outcome c bytes).messages + messages
   pub stop : stop_on (session_of id after.sessions) ≡ (outcome c (bytes ++ front)).stop
 
 -- The contract of a call of `take` that returned no error.
@@ -177,8 +169,8 @@ module _ {v : ServerValue} {bytes : List ℕ} (a m : Following)
       let room : has_room before ≡ true = le-leb before.history.limits.max_sent _ (omega (
         arith,
         goes.ranges.queue_low,
-        ap (λ (l : LimitValues). l.max_sent) is.same_limits,
-        ap (λ (l : LimitValues). l.queue) is.same_limits,
+        ap (λ l. l.max_sent) is.same_limits,
+        ap (λ l. l.queue) is.same_limits,
         ap length (world_for_written c bytes).waits,
       )) in
       rw (takes_unless_stopped c bytes, goes.going, room) refl
@@ -197,10 +189,10 @@ module _ {v : ServerValue} {bytes : List ℕ} (a m : Following)
   front_refused_by : {piece : List ℕ} {n : ℕ} → RefusesLast v es id piece n → FrontRefused c bytes piece n
   unfolding outcome flushed_after
   front_refused_by {piece = piece} {n = n} last =
-      let front : List ℕ = take n piece in
+      let front = take n piece in
       let spelled = goes.is_at.spelled goes.going in
-      let stream_is = ap (λ (s : Stream × ℕ). s.0) spelled in
-      let size_is = ap (λ (s : Stream × ℕ). s.1) spelled in
+      let stream_is = ap (λ s. s.0) spelled in
+      let size_is = ap (λ s. s.1) spelled in
       let further : split_on M (stream_of c bytes) front ≡ stream_of c (bytes ++ front) =
       sym (split_goes_on M bytes front) in
       let quiet : beyond id (stream_of c bytes) (stream_of c (bytes ++ front)) ≡ [] =
@@ -212,14 +204,14 @@ module _ {v : ServerValue} {bytes : List ℕ} (a m : Following)
         later = last.later;
         all = last.all;
         refused = record {
-          no_stop = ap (λ (w : World). (outcome_on (side_of id w.sides)).stop) same ∙ goes.going;
+          no_stop = ap (λ w. (outcome_on (side_of id w.sides)).stop) same ∙ goes.going;
           message = last.message;
           one_more =
               split_goes_on M (bytes ++ front) (last.last ∷ []) ∙ rw (stream_is, size_is, further) at last.one_more;
           stores = rw (same, ← goes.is_at.world) last.stores;
         };
         says =
-            ap (λ (w : World). (outcome_on (side_of id w.sides)).output) same ∙ sym (append-nil (stdio_output c bytes));
+            ap (λ w. (outcome_on (side_of id w.sides)).output) same ∙ sym (append-nil (stdio_output c bytes));
       }
 
   -- The report of this call, which accepted the first `n` bytes.
@@ -230,13 +222,13 @@ module _ {v : ServerValue} {bytes : List ℕ} (a m : Following)
       → HasReported c (FollowsMore a k) (bytes ++ take n piece) (length (stdio_output c (bytes ++ take n piece)))
   refused_reported {piece = piece} {n = n} k refused is shows reported = record {
     server = _;
-    config = ap (λ (u : ServerValue). u.config) is ∙ config_stays v id (take n piece);
+    config = ap (λ u. u.config) is ∙ config_stays v id (take n piece);
     events = _;
     shows = shows es goes.is_at.shows;
     transfers = rw (
       refused.says,
       append-nil (stdio_output c bytes),
-    ) (transfers_taken c id (take n piece) es waits_before transfers_before);
+    ) (transfers_taken c id es transfers_before (take n piece) waits_before);
     monitor_reports = followed_then a m k es _ goes.is_at.reports reported;
   }
 
@@ -248,7 +240,7 @@ module _ {v : ServerValue} {bytes : List ℕ} (a m : Following)
       let unfinished = rest_unfinished M id es (handling_goes_on c es id before reached was_there handling) in
       let front = some_in_front (size_on M id es) (stream_on M id es).rest piece unfinished some in
       let count = takes_there c es id piece before was_there
-      ∙ ap (λ (b : Bool). cond b (front_of (size_on M id es) (stream_on M id es).rest piece) 0) handling in
+      ∙ ap (λ b. cond b (front_of (size_on M id es) (stream_on M id es).rest piece) 0) handling in
       omega (arith, front, count, took.takes_so es goes.is_at.shows)
 
   module _ {piece : List ℕ} {v1 : ServerValue} {t : Taken} (took : WasTaken v v1 id piece t) (k : Following)
@@ -257,7 +249,7 @@ module _ {v : ServerValue} {bytes : List ℕ} (a m : Following)
     T = take t.bytes piece
 
     bytes_are : T ≡ take (takes c es id piece) piece
-    bytes_are = ap (λ (n : ℕ). take n piece) (took.takes_so es goes.is_at.shows)
+    bytes_are = ap (λ n. take n piece) (took.takes_so es goes.is_at.shows)
 
     -- The world after the call, once it is flushed, is that for the bytes.
     flushed_world : flushed c.limits id (world_after c (es ++ Took id T ∷ [])) ≡ world_for c (bytes ++ T)
@@ -275,7 +267,7 @@ module _ {v : ServerValue} {bytes : List ℕ} (a m : Following)
               ∙ sym (on ∙ ap (flushed_after c.limits id (world_for c bytes)) none)
           | inr one ↦
               ap (flushed c.limits id)
-              (world_step c es (Took id T) one.0 one.1 ∙ ap (λ (w : World). step c.limits w one.0) goes.is_at.world)
+              (world_step c es (Took id T) one.0 one.1 ∙ ap (λ w. step c.limits w one.0) goes.is_at.world)
               ∙ sym (on ∙ ap (flushed_after c.limits id (world_for c bytes)) one.1)
         ]
 
@@ -294,14 +286,14 @@ module _ {v : ServerValue} {bytes : List ℕ} (a m : Following)
     leads : LeadsTo c v1 grown.0 (bytes ++ T) (FollowsMore a k)
     leads = record {
       from = record {
-        config = ap (λ (u : ServerValue). u.config) took.after_is ∙ config_stays v id piece;
+        config = ap (λ u. u.config) took.after_is ∙ config_stays v id piece;
         events = es ++ Took id T ∷ [];
         shows = took.shows es goes.is_at.shows;
         there = grown.1;
       };
       flushes = flushed_world;
       spelled = spelled_more c es bytes T (goes.is_at.spelled goes.going);
-      transfers = rw said_before (transfers_taken c id T es waits_before transfers_before);
+      transfers = rw said_before (transfers_taken c id es transfers_before T waits_before);
       reports = followed_then a m k es _ goes.is_at.reports reported;
     }
 
@@ -317,36 +309,22 @@ module _ {v : ServerValue} {bytes : List ℕ} (a m : Following)
         let reported : t.handled ≡ handled_in c es (Took id (take (takes c es id piece) piece)) id =
         rw bytes_are at (took.says es goes.is_at.shows) in
         record {
-          whole = record {
-            is_at = now.is_at;
-            text = now.text;
-            says = rw (← said_before) now.says;
-            written = now.written;
-            counted = omega (
-              arith,
-              flush_counts leads,
-              all,
-              ap count_of reported,
-              ap (λ (o : Outcome). o.messages) outcome_before,
-              counted,
-            );
-          };
+          rest = rw said_before at now;
+          counted = omega (
+            arith,
+            flush_counts leads,
+            all,
+            ap count_of reported,
+            ap (λ o. o.messages) outcome_before,
+            counted,
+          );
           stop = stop_reported now.is_at;
         }
 
     -- A write failed: a part of the output defined for the bytes accepted was written.
     front_cut_by : (n : Following) (x y : Option (List ℕ)) → IsCutFlush id v1 (AddsBytes x y) (FollowsMore k n)
-        → IsCut c bytes T (AddsBytes x y) (FollowsMore a n)
-    front_cut_by n x y did =
-        let cut = cut_flush_leads a k n leads did in
-        record {
-          part = cut.part;
-          missing = cut.missing;
-          some = cut.some;
-          says = cc (cut.says, said_before);
-          written = cut.written;
-          reported = rw said_before at cut.reported;
-        }
+        → CutOff c (stdio_output c bytes) (bytes ++ T) x y (FollowsMore a n)
+    front_cut_by n x y did = rw said_before at (cut_flush_leads a k n leads did)
 
 -- ---- any name of the configuration and of the number
 
@@ -361,15 +339,12 @@ module _ {c : ConfigValues} {v : ServerValue} {id : ℕ} {bytes : List ℕ} (a m
   pub session_going : (s : SessionValue) × (session_of id v.sessions ≡ Some s)
   session_going = rw (goes.number, ← goes.is_at.config) (_, session_was a m named)
 
-  pub is_not_missing : session_of id v.sessions ≡ None → ⊥
-  is_not_missing none = let there = session_going.1 in cc
-
   pub front_refused : {piece : List ℕ} {n : ℕ} → RefusesPieceOn v piece n (session_of id v.sessions)
       → FrontRefused c bytes piece n
-  front_refused refused =
+  front_refused =
       let there = session_was a m named in
-      rw (← goes.is_at.config) (front_refused_by a m named (refuses_last v named.is_at.events _ _ _ _ named.is_at.shows
-      there (rw there at (rw (goes.number, ← goes.is_at.config) at refused))))
+      rw (goes.number, ← goes.is_at.config) (λ refused. front_refused_by a m named (refuses_last v _ _ _ _ _
+      named.is_at.shows there (rw there at refused)))
 
   -- The monitor received the call for which an allocation failed.
   pub front_reported : {piece : List ℕ} {n : ℕ} {v1 : ServerValue} (k : Following) → FrontRefused c bytes piece n
@@ -377,33 +352,22 @@ module _ {c : ConfigValues} {v : ServerValue} {id : ℕ} {bytes : List ℕ} (a m
       → ((events : List AcceptedCall) → Shows v events → Shows v1 (events ++ Took id (take n piece) ∷ []))
       → FollowsMore m k (Took id (take n piece) ∷ [])
       → HasReported c (FollowsMore a k) (bytes ++ take n piece) (length (stdio_output c (bytes ++ take n piece)))
-  front_reported k refused is shows reported =
-      rw (← goes.is_at.config) (refused_reported a m named k (rw (← goes.is_at.config) at refused)
-      (rw (goes.number, ← goes.is_at.config) at is) (rw (goes.number, ← goes.is_at.config) at shows)
-      (rw (goes.number, ← goes.is_at.config) at reported))
+  front_reported = rw (goes.number, ← goes.is_at.config) (refused_reported a m named)
 
-  module _ {piece : List ℕ} {v1 : ServerValue} {t : Taken} (took : WasTaken v v1 id piece t) where
-    taken_so : WasTaken v v1 (only_id v.config) piece t
-    taken_so = rw (goes.number, ← goes.is_at.config) at took
-
-    pub front_served : (k n : Following) {after : ServerValue} {wrote : List ℕ → Type 0} {messages : ℕ}
-        → FollowsMore m k (Took id (take t.bytes piece) ∷ []) → messages ≡ count_of t.handled
-        → IsReportedFlush id v1 after wrote (FollowsMore k n)
+  module _ {piece : List ℕ} {v1 : ServerValue} {t : Taken} where
+    pub front_served : WasTaken v v1 id piece t → (k : Following) → FollowsMore m k (Took id (take t.bytes piece) ∷ [])
+        → {after : ServerValue} {wrote : List ℕ → Type 0} {messages : ℕ} (n : Following)
+        → messages ≡ count_of t.handled → IsReportedFlush id v1 after wrote (FollowsMore k n)
         → FrontServed c id bytes (take t.bytes piece) after wrote (FollowsMore a n) messages
-    front_served k n reported counted did =
-        rw (goes.number, ← goes.is_at.config) (front_served_by a m named taken_so k
-        (rw (goes.number, ← goes.is_at.config) at reported) n counted
-        (rw (goes.number, ← goes.is_at.config) at did))
+    front_served = rw (goes.number, ← goes.is_at.config) (front_served_by a m named)
 
-    pub front_cut : (k n : Following) (x y : Option (List ℕ)) → FollowsMore m k (Took id (take t.bytes piece) ∷ [])
-        → IsCutFlush id v1 (AddsBytes x y) (FollowsMore k n)
-        → IsCut c bytes (take t.bytes piece) (AddsBytes x y) (FollowsMore a n)
-    front_cut k n x y reported did =
-        rw (← goes.is_at.config) (front_cut_by a m named taken_so k
-        (rw (goes.number, ← goes.is_at.config) at reported) n x y (rw (goes.number, ← goes.is_at.config) at did))
+    pub front_cut : WasTaken v v1 id piece t → (k : Following) → FollowsMore m k (Took id (take t.bytes piece) ∷ [])
+        → (n : Following) (x y : Option (List ℕ)) → IsCutFlush id v1 (AddsBytes x y) (FollowsMore k n)
+        → CutOff c (stdio_output c bytes) (bytes ++ take t.bytes piece) x y (FollowsMore a n)
+    front_cut = rw (goes.number, ← goes.is_at.config) (front_cut_by a m named)
 
-    pub front_some : 0 < length piece → 1 ≤ t.bytes
-    front_some = front_some_by a m named taken_so
+    pub front_some : WasTaken v v1 id piece t → 0 < length piece → 1 ≤ t.bytes
+    front_some = rw (goes.number, ← goes.is_at.config) (front_some_by a m named)
 
 -- A call of `take` processes at most one message.
 pub handled_few : (what : Handled) → count_of what ≤ 1
@@ -432,7 +396,7 @@ serves_none {c = c} {bytes = bytes} {x = x} goes = record {
   text = [];
   says = simp append-nil;
   written = bytes_none x;
-  counted = omega (arith, ap (λ (b : List ℕ). (outcome c b).messages) (append-nil bytes));
+  counted = omega (arith, ap (λ b. (outcome c b).messages) (append-nil bytes));
 }
 
 module _ {c : ConfigValues} {id : ℕ} {bytes piece : List ℕ} {v : ServerValue} {rest : List ℕ} {x y : Option (List ℕ)}
@@ -442,15 +406,7 @@ module _ {c : ConfigValues} {id : ℕ} {bytes piece : List ℕ} {v : ServerValue
 
   -- Nothing is left.
   pub served_all : rest ≡ [] → IsWhole c bytes piece v (AddsBytes x y) (FollowsMore a m) messages
-  served_all none =
-      rw (so_far.all, none, append-nil)
-      (record {
-        is_at = so_far.goes.is_at;
-        text = so_far.text;
-        says = so_far.says;
-        written = so_far.written;
-        counted = so_far.counted;
-      })
+  served_all none = rw (so_far.all, none, append-nil) (search so_far)
 
   -- A prefix of the rest, and the bytes after it.
   module _ (n : ℕ) where
@@ -461,15 +417,14 @@ module _ {c : ConfigValues} {id : ℕ} {bytes piece : List ℕ} {v : ServerValue
     further_bytes = sym (append_assoc bytes so_far.taken (take n rest))
 
     whole_bytes : bytes ++ piece ≡ (here ++ take n rest) ++ drop n rest
-    whole_bytes = ap (λ (b : List ℕ). bytes ++ b) split_so ∙ simp append_assoc
+    whole_bytes = ap (λ b. bytes ++ b) split_so ∙ simp append_assoc
 
     -- The prefix was processed, and the connection processes further messages.
     pub serves_more : {z : Option (List ℕ)} {monitor : OnCalls} {after : ServerValue} {more : ℕ}
         → FrontServed c id here (take n rest) after (AddsBytes y z) monitor more
         → stop_on (session_of id after.sessions) ≡ None
         → Serves c id bytes piece after (drop n rest) x z monitor (messages + more)
-    serves_more {z = z} did going =
-        let said = did.whole in
+    serves_more {z = z} said going =
         record {
           taken = so_far.taken ++ take n rest;
           all = split_so;
@@ -477,13 +432,13 @@ module _ {c : ConfigValues} {id : ℕ} {bytes piece : List ℕ} {v : ServerValue
             number = so_far.goes.number;
             ranges = so_far.goes.ranges;
             is_at = said.is_at;
-            going = sym did.stop ∙ going;
+            going = sym said.stop ∙ going;
           });
           text = so_far.text ++ said.text;
           says = rw (further_bytes, said.says, so_far.says, append_assoc) refl;
           written = bytes_then x y z so_far.text said.text so_far.written said.written;
           counted =
-              omega (arith, said.counted, so_far.counted, ap (λ (b : List ℕ). (outcome c b).messages) further_bytes);
+              omega (arith, said.counted, so_far.counted, ap (λ b. (outcome c b).messages) further_bytes);
         }
 
     -- The prefix was processed, and the connection processes no further message.
@@ -491,10 +446,9 @@ module _ {c : ConfigValues} {id : ℕ} {bytes piece : List ℕ} {v : ServerValue
         {why : Reason} → FrontServed c id here (take n rest) after (AddsBytes y z) monitor more
         → stop_on (session_of id after.sessions) ≡ Some why
         → IsWhole c bytes piece after (AddsBytes x z) monitor (messages + more)
-    serves_last z {why = why} did stopped =
-        let said = did.whole in
+    serves_last z {why = why} said stopped =
         let of = said.is_at.transfers in
-        let over : (outcome c (here ++ take n rest)).stop ≡ Some why = sym did.stop ∙ stopped in
+        let over : (outcome c (here ++ take n rest)).stop ≡ Some why = sym said.stop ∙ stopped in
         let same : outcome c (bytes ++ piece) ≡ outcome c (here ++ take n rest) =
         rw whole_bytes (stopped_outcome c (here ++ take n rest) (drop n rest) why over) in
         record {
@@ -503,26 +457,27 @@ module _ {c : ConfigValues} {id : ℕ} {bytes piece : List ℕ} {v : ServerValue
             events = said.is_at.events;
             shows = said.is_at.shows;
             world = said.is_at.world ∙ sym (rw whole_bytes (stopped_output c _ (drop n rest) why over));
-            spelled = λ none. absurd (cc (ap (λ (o : Outcome). o.stop) same));
+            spelled = λ none. absurd (cc (ap (λ o. o.stop) same));
             transfers = record {
               taken = of.taken;
               later = of.later ++ drop n rest;
               all = rw (whole_bytes, of.all) (append_assoc of.taken of.later (drop n rest));
-              whole = λ none. absurd (cc (ap (λ (o : Outcome). o.stop) same));
+              whole = λ none. absurd (cc (ap (λ o. o.stop) same));
               same = of.same ∙ sym same;
-              transfers = rw (ap (λ (o : Outcome). o.output) same) of.transfers;
+              transfers = rw (ap (λ o. o.output) same) of.transfers;
             };
             reports = said.is_at.reports;
           };
           text = so_far.text ++ said.text;
-          says = rw (ap (λ (o : Outcome). o.output) same, said.says, so_far.says, append_assoc) refl;
+          says = rw (ap (λ o. o.output) same, said.says, so_far.says, append_assoc) refl;
           written = bytes_then x y z so_far.text said.text so_far.written said.written;
-          counted = omega (arith, said.counted, so_far.counted, ap (λ (o : Outcome). o.messages) same);
+          counted = omega (arith, said.counted, so_far.counted, ap (λ o. o.messages) same);
         }
 
     -- The output for the prefix was not written in full.
     pub cut_off : (z : Option (List ℕ)) {monitor : OnCalls}
-        → IsCut c here (take n rest) (AddsBytes y z) monitor → IsCut c bytes piece (AddsBytes x z) monitor
+        → CutOff c (stdio_output c here) (here ++ take n rest) y z monitor
+        → IsCut c bytes piece (AddsBytes x z) monitor
     cut_off z did =
         let more = output_grows c (here ++ take n rest) (drop n rest) in
         let r = did.reported in

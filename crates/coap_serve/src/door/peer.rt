@@ -291,6 +291,10 @@ fn take_buffered<W, A: Application, M: Monitor<W>>(
         return Err(IoFault::Memory);
     };
     rest.advance(served.count);
+    // Most visits end here, without a search for the connection.
+    if rest.is_empty() {
+        return Ok(served);
+    }
     if has_stopped(server, id) {
         rest.clear();
     }

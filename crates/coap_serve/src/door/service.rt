@@ -286,6 +286,9 @@ impl<W: Wire + Ready + Drop> Service<W> {
     ///   if nothing can be done on it. The application is shown each request that it answers directly after the call of
     ///   `take` that accepted it, and may respond at once.
     ///
+    /// The listener gets back the wire of each connection that is dropped or could not be opened (`Door::closed`).
+    /// Those of open connections are dropped with the service.
+    ///
     /// The wait is that of `serve_door`, at most as long as the application allows, and zero after 256 later responses.
     /// With a limit of silence and a connection, it lasts at most until the next second.
     ///

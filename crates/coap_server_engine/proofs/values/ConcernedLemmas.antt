@@ -18,7 +18,7 @@ use Rattle.coap_server_engine.specs.Prelude.{session_given_by, map, slice_get, A
 use Rattle.coap_server_engine.specs.Prelude.{Delete, IsStore, shared_changed, IsSettled, AreSettled, change_hash}
 use Rattle.coap_server_engine.specs.Prelude.{IsUnaffected, UnaffectedAreSettled, AreOthersSettled, unmarked_entry}
 use Rattle.coap_server_engine.specs.Prelude.{IsMarked, ConcernsNone, IsMarkedBut, AreMarkedBut, AreAllMarked}
-use Rattle.coap_server_engine.specs.Prelude.{AreMarkedAfter}
+use Rattle.coap_server_engine.specs.Prelude.{AreMarkedAfter, settled_pending}
 use Rattle.coap_server_session.specs.declared.cause.Cause.TheVariants as cause
 use Rattle.coap_server_session.proofs.values.ConcernLemmas.{written_adds, AddsNone, AddsLast, still_unconcerned}
 use Rattle.coap_server_session.proofs.values.ConcernLemmas.{unconcerned, settled_adds, adds_settled, same_adds}
@@ -252,6 +252,13 @@ noted_one c at v hash before after there last outside h set is = elim (set_cases
 pub noted_none : (c : Concerned) (at : ℕ) (v : SessionValue) → last_hash v.observers ≡ None → (h : ℕ) (set : IndexSet)
     → slice_get c.paths.items h ≡ Some set → IsNoted c at v h set
 noted_none c at v last h set is = record { before = set; there = is; kept = λ i out. out; own = λ out same. absurd cc }
+
+-- A connection without a pending entry does not settle.
+pub nothing_pending : (shared : ServerState) (es : Entries) (i : ℕ) (s : SessionValue)
+    → slice_get (values_of es) i ≡ Some s → length s.link.pending ≤ 0 → changed_at i (settled_pending shared) es ≡ es
+nothing_pending shared es i s at none =
+    let same : settled_pending shared s ≡ s = grind (arith, none) in
+    sym (written_at_index (settled_pending shared) es i s at) ∙ written_back es i s _ at same
 
 -- The connection has no observer and no pending entry.
 pub quiet_covered : (c : Concerned) (at : ℕ) (v : SessionValue) → length v.link.pending + length v.observers ≤ 0

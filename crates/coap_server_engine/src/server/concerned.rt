@@ -1,6 +1,6 @@
 //! The connections of a server that a change may concern.
 
-ghost use Rattle.std.specs.Prelude.{◌≡◌, ◌<◌, Some, IfOk, List, ℕ, length, remove, slice_get};
+ghost use Rattle.std.specs.Prelude.{◌≡◌, ◌<◌, ◌+◌, Some, nat_lt, IfOk, List, ℕ, length, remove, slice_get};
 ghost use Rattle.coap_server_engine.specs.Prelude.{AreCovered, AreCoveredBut, SessionValue, values_of};
 
 use crate::index_set::IndexSet;
@@ -68,19 +68,23 @@ impl Concerned {
     }
 
     /// Adds a connection, at this index, to the set of its last observer. If it has an observer or a pending entry, it
-    /// is added to the set of the time too.
+    /// is added to the set of the time too. Returns `true` if it has one of these.
     ///
     /// A message adds at most one observer to a connection, at the end of the list.
     #[inline(always)]
-    pub(super) fn note(&mut self, session: &Session, at: usize)
+    pub(super) fn note(&mut self, session: &Session, at: usize) -> bool
         requires { length self.old.paths.items ≡ 256 }
-        ensures { (sessions : List (ℕ × SessionValue)) →
+        ensures covered { (sessions : List (ℕ × SessionValue)) →
             slice_get (values_of sessions) at ≡ Some session.now.session →
             AreCoveredBut at self.old sessions → AreCovered self.new sessions }
+        ensures busy { result ≡ nat_lt 0 (length session.now.session.link.pending
+            + length session.now.session.observers) }
     {
-        if session.settle_bound() > 0 {
-            self.note_busy(session, at);
+        if session.settle_bound() == 0 {
+            return false;
         }
+        self.note_busy(session, at);
+        true
     }
 
     /// Does the same as `note` for a connection with an observer or a pending entry.

@@ -182,9 +182,13 @@ pub(super) fn settle_after(
     ensures splits { splits_of sessions.new.entries ≡ splits_of sessions.old.entries }
     ensures affected { AddsConcerned changed affected.old.words affected.new.words (unmarked sessions.old.entries) }
 {
-    sets.note(&sessions[at], at);
+    let is_busy = sets.note(&sessions[at], at);
     match changed {
-        None => sessions[at].settle_if_pending(shared),
+        None => {
+            if is_busy {
+                sessions[at].settle_if_pending(shared);
+            }
+        }
         Some(hash) => {
             affected.join(sets.of_path(hash));
             sessions[at].settle(shared);

@@ -1,21 +1,17 @@
 use Rattle.coap_serve.proofs.streams.RunLemmas.{goes_at_first, cut_at_first, greeted, not_begun}
 use Rattle.coap_serve.proofs.serve_streams.serve_one_with.Goals as goal
 
-pub returns-in_default-clause-run : goal.returns-in_default-clause-run
-returns-in_default-clause-run g c =
-    let ran = not_begun _ _ _ (g.M.Monitor.follows c.args.monitor.now) in
-    (ran.0, ran.1, ran.2, ran.3, ran.4, ran.5)
-
 pub returns-in_default-clause-reported : goal.returns-in_default-clause-reported
 returns-in_default-clause-reported g c = not_begun _ _ _ _
 
-pub returns-in_default-open-clause-run : goal.returns-in_default-open-clause-run
-returns-in_default-open-clause-run g c =
-    let ran = not_begun _ _ _ (g.M.Monitor.follows c.args.monitor.now) in
-    (ran.0, ran.1, ran.2, ran.3, ran.4, ran.5)
+pub returns-in_default-clause-run : goal.returns-in_default-clause-run
+returns-in_default-clause-run g c = search (returns-in_default-clause-reported g c)
 
 pub returns-in_default-open-clause-reported : goal.returns-in_default-open-clause-reported
 returns-in_default-open-clause-reported g c = not_begun _ _ _ _
+
+pub returns-in_default-open-clause-run : goal.returns-in_default-open-clause-run
+returns-in_default-open-clause-run g c = search (returns-in_default-open-clause-reported g c)
 
 pub returns-in_default-greet-clause-reported : goal.returns-in_default-greet-clause-reported
 returns-in_default-greet-clause-reported g c =
@@ -23,8 +19,7 @@ returns-in_default-greet-clause-reported g c =
     _ _ c.in_default-greet.ensures.part
 
 pub returns-in_default-greet-clause-run : goal.returns-in_default-greet-clause-run
-returns-in_default-greet-clause-run g c =
-    let ran = returns-in_default-greet-clause-reported g c in (ran.0, ran.1, ran.2, ran.3, ran.4, ran.5)
+returns-in_default-greet-clause-run g c = search (returns-in_default-greet-clause-reported g c)
 
 pub run-requires-clause-is_at : goal.run-requires-clause-is_at
 run-requires-clause-is_at g c = (
@@ -42,4 +37,4 @@ returns-clause-reported g c =
     greeted _ _ _ _ _ _ _ _ first.1 (c.run.ensures.run _ first.0)
 
 pub returns-clause-run : goal.returns-clause-run
-returns-clause-run g c = let ran = returns-clause-reported g c in (ran.0, ran.1, ran.2, ran.3, ran.4, ran.5)
+returns-clause-run g c = search (returns-clause-reported g c)

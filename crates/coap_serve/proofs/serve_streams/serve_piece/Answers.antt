@@ -1,8 +1,8 @@
-use Rattle.std.proofs.Common.{◌≤◌, ℕ, take, ap, refl, sym, ◌∙◌, arith}
+use Rattle.std.proofs.Common.{◌≤◌, take, ap, refl, sym, ◌∙◌, arith}
 use Rattle.std.proofs.lemmas.List.{length-drop}
 use Rattle.coap_io.proofs.streams.WriteLemmas.{rest_of}
 use Rattle.coap_server_engine.proofs.scripting.ReplayLemmas.{not_taken_within}
-use Rattle.coap_serve.proofs.streams.TakeLemmas.{front_served, front_cut, front_some, is_not_missing, handled_few}
+use Rattle.coap_serve.proofs.streams.TakeLemmas.{front_served, front_cut, front_some, session_going, handled_few}
 use Rattle.coap_serve.proofs.streams.TakeLemmas.{serves_none, served_all, serves_more, serves_last, cut_off}
 use Rattle.coap_serve.proofs.streams.TakeLemmas.{piece_refused, is_filled, is_used_up}
 use Rattle.coap_serve.proofs.streams.RunLemmas.{not_there}
@@ -28,7 +28,7 @@ unreachable-requires-in-Err-NoSuch g c =
     let goes = c.requires.is_at in
     let so_far = c.loop-rest.invariant.serves goes.0 goes.1 goes.2 goes.3 in
     let e = rw c.in-Err-NoSuch.field-0-is at c.in-Err-NoSuch.ensures in
-    is_not_missing _ _ so_far.goes e.refused.0
+    cc ((session_going _ _ so_far.goes).1, e.refused.0)
 
 -- Fewer bytes than those of the slice were accepted.
 pub slice_bounds-took-end : goal.slice_bounds-took-end
@@ -46,7 +46,7 @@ accepted-requires g c =
 pub accepted-requires-in-loop-rest : goal.accepted-requires-in-loop-rest
 accepted-requires-in-loop-rest g c =
     let t = c.in-Ok.ensures in
-    WasTaken _ _ t.ok (ap (λ (n : ℕ). take n c.loop-rest.rest.now) t.count) t.handled
+    WasTaken _ _ t.ok (ap (λ n. take n c.loop-rest.rest.now) t.count) t.handled
 
 pub returns-in-Err-Memory-clause-served : goal.returns-in-Err-Memory-clause-served
 returns-in-Err-Memory-clause-served g c = λ first k bytes goes.
@@ -56,16 +56,15 @@ returns-in-Err-Memory-clause-served g c = λ first k bytes goes.
 pub returns-in_default-flush_at-clause-served : goal.returns-in_default-flush_at-clause-served
 returns-in_default-flush_at-clause-served g c = λ first k bytes goes.
     let so_far = c.loop-rest.invariant.serves first k bytes goes in
-    cut_off _ _ so_far _ _ (front_cut _ _ so_far.goes {t = c.in-Ok.taken} (assumption c.in-Ok.ensures) _ _ _ _
-    c.accepted-in-loop-rest.ensures
-    c.in_default-flush_at.ensures.part)
+    cut_off _ _ so_far _ _ (front_cut _ _ so_far.goes {t = c.in-Ok.taken} (assumption c.in-Ok.ensures) _
+    c.accepted-in-loop-rest.ensures _ _ _ c.in_default-flush_at.ensures.part)
 
 pub returns-then-is_some-clause-served : goal.returns-then-is_some-clause-served
 returns-then-is_some-clause-served g c = λ first k bytes goes.
     let so_far = c.loop-rest.invariant.serves first k bytes goes in
     let stopped = there_is _ (sym c.if-is_some.ensures) in
-    serves_last _ _ so_far _ _ (front_served _ _ so_far.goes (assumption c.in-Ok.ensures) _ _
-    c.accepted-in-loop-rest.ensures c.handled-messages.ensures c.in-Ok-flush_at.ensures.ok)
+    serves_last _ _ so_far _ _ (front_served _ _ so_far.goes (assumption c.in-Ok.ensures) _
+    c.accepted-in-loop-rest.ensures _ c.handled-messages.ensures c.in-Ok-flush_at.ensures.ok)
     (sym c.in-Ok-flush_at.ensures.stop ∙ stopped.1)
 
 -- A call of `take` accepts at least one byte.
@@ -89,8 +88,8 @@ pub loop-rest-preserved : goal.loop-rest-preserved
 loop-rest-preserved g c = record {
   serves = λ first k bytes goes.
       let so_far = c.loop-rest.invariant.serves first k bytes goes in
-      rw (rest_of _ _) (serves_more _ _ so_far _ (front_served _ _ so_far.goes (assumption c.in-Ok.ensures) _ _
-      c.accepted-in-loop-rest.ensures c.handled-messages.ensures c.in-Ok-flush_at.ensures.ok)
+      rw (rest_of _ _) (serves_more _ _ so_far _ (front_served _ _ so_far.goes (assumption c.in-Ok.ensures) _
+      c.accepted-in-loop-rest.ensures _ c.handled-messages.ensures c.in-Ok-flush_at.ensures.ok)
       (sym c.in-Ok-flush_at.ensures.stop ∙ there_is_none _ (sym c.if-is_some.ensures)));
   lies = c.in-Ok-flush_at.ensures.lies;
   works = c.in-Ok-flush_at.ensures.failure;

@@ -1,7 +1,7 @@
 use Rattle.std.proofs.Common.{ap, arith, length, map, refl, ◌+◌, ◌≤◌, ◌∙◌}
 use Rattle.std.proofs.lemmas.List.{length-map}
 use Rattle.std.proofs.lemmas.Option.{slice_get-map}
-use Rattle.coap_serve.specs.Prelude.{PeerInterest, peer_status}
+use Rattle.coap_serve.specs.Prelude.{peer_status}
 use Rattle.coap_serve.proofs.listener.SleepLemmas.{calm_wait, none_idle, one_idle, opened_wait, ready_wait}
 use Rattle.coap_serve.proofs.listener.SleepLemmas.{sleepers_idle, looked_at, one_looked, sleepers_rest}
 use Rattle.coap_serve.proofs.door.next_ready.next_wait.Goals as goal
@@ -31,7 +31,7 @@ loop-at-preserved g c =
     let status = peer_status readable writable c.args.server.now in
     let looked = looked_at readable writable c.args.server.now entries c.loop-at.at c.interest_at-interest.ensures
     c.index-peer.ensures (rw c.if-is_ready.false at c.is_ready.ensures) in
-    let due = ap (λ (w : PeerInterest). w.due) looked.2 in
+    let due = ap (λ w. w.due) looked.2 in
     let within : c.next-at-in-loop-at.result ≤ length entries = omega (
       arith,
       c.next-at-in-loop-at.ensures.within,
